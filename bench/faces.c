@@ -1,4 +1,4 @@
-/* faces COUNT: writes, reads and receives so often through the library for C, and prints the seconds of each, as bench/faces.py asks. */
+/* faces COUNT: writes, reads and receives COUNT times through the library for C, and prints the seconds of each, for bench/faces.py. */
 #define _POSIX_C_SOURCE 200809L
 
 #include "jdoc.h"
@@ -21,7 +21,7 @@ static double now(void)
     return (double)at.tv_sec + (double)at.tv_nsec / 1e9;
 }
 
-/* Leaves the reply to a request in `reply`, which must begin with this. */
+/* Puts the reply to a request into `reply`; it must begin with this. */
 static void call(jdoc_handle *document, const char *request, const char *begin)
 {
     size_t length = 0;
@@ -53,7 +53,7 @@ static void read_all(jdoc_handle *document, int count)
     }
 }
 
-/* Receives all that the source has, which may take several bundles, and returns the seconds of the receipts. */
+/* Receives everything that the source has, which may take several bundles, and returns the seconds of the receipts. */
 static double receive_all(jdoc_handle *document, jdoc_handle *source)
 {
     char *request = malloc(ROOM + 16);
@@ -69,7 +69,7 @@ static double receive_all(jdoc_handle *document, jdoc_handle *source)
         }
         strcpy(at, "\"]");
         call(source, request, "[\"bundle\",");
-        /* The text within `["bundle",TEXT,MORE,BEYOND]` is quoted already. */
+        /* The text within `["bundle",TEXT,MORE,BEYOND]` is already quoted. */
         char *end = strrchr(reply, '"');
         has_more = strncmp(end + 1, ",true", 5) == 0;
         sprintf(request, "[\"receive\",%.*s]", (int)(end + 1 - (reply + 10)), reply + 10);

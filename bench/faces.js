@@ -1,5 +1,5 @@
-// faces.js COUNT: plays so many writes, readings and received updates in Yjs, in this process, and prints the seconds that each took. A
-// write is a transaction, and its update, which a peer is sent, is kept; a peer then takes these in one by one.
+// faces.js COUNT: plays COUNT writes, readings and received updates in Yjs, in this process, and prints the seconds that each took. A
+// write is a transaction, and its update, which goes to a peer, is kept; the peer then takes these in one by one.
 const Y = require('yjs')
 
 const count = Number(process.argv[2])

@@ -1,11 +1,11 @@
 #!/usr/bin/env python3
-"""bench/faces.py [time] [COUNT]: what a write with its reply, a reading and a received line take through each face of the engine.
+"""bench/faces.py [time] [COUNT]: how long a write with its reply, a reading and a received line take through each face of the engine.
 
-The program is the environment's JDOC, else that which `rt run` in crates/jdoc made; the library is proved and built where it isn't yet.
-Plays COUNT writes, readings and received lines through each face (10000 if it isn't given), looks at the replies, and prints the names
-of the faces. With the word `time` it plays each five times, and prints the median microseconds of a write, a reading and a line, from
-call to answer. Yjs is played beside them where node finds it (Debian's package node-yjs). The documents are in memory: nothing is synced.
-Nothing else may run beside it."""
+The program is the environment's JDOC, else the one that `rt run` in crates/jdoc made; the library is proved and built if it isn't yet.
+Plays COUNT writes, readings and received lines through each face (by default 10000), checks the replies, and prints the names of the
+faces. With the word `time` it plays each five times, and prints the median microseconds of a write, a reading and a line, from call to
+answer. Yjs is played too if node finds it (Debian's package node-yjs). The documents are in memory: nothing is synced. Nothing else may
+run at the same time."""
 import json
 import os
 import shutil
@@ -29,7 +29,7 @@ TURNS = 5
 
 
 class Pipe:
-    """Lines to `jdoc serve`, with no package between."""
+    """Lines to `jdoc serve`, without a package in between."""
 
     def __init__(self, number):
         words = [PROGRAM, 'serve', '--number', str(number)]
@@ -50,7 +50,7 @@ class Pipe:
 
 
 def by_pipe(count):
-    """The seconds of so many writes, readings and received lines, from a process that writes lines to another."""
+    """The seconds of this many writes, readings and received lines, for a process that writes lines to another."""
     document, peer = Pipe(1), Pipe(2)
     began = time.perf_counter()
     for index in range(count):
@@ -74,7 +74,7 @@ def by_pipe(count):
 
 
 def by_python(**how):
-    """The same through the package, by the program or by the library."""
+    """The same through the package, with the program or with the library."""
     def play(count):
         with Document.open(number=1, **how) as document, Document.open(number=2, **how) as peer:
             return played_by(document, peer, count)
@@ -82,7 +82,7 @@ def by_python(**how):
 
 
 def played_by(document, peer, count):
-    """The seconds that documents of the package take."""
+    """The seconds for documents of the package."""
     began = time.perf_counter()
     for index in range(count):
         document.set(f'k{index % KEYS}', index)
@@ -102,7 +102,7 @@ def played_by(document, peer, count):
 
 
 def by_program(program):
-    """The same by a program that prints the seconds."""
+    """The same for a program that prints the seconds."""
     def play(count):
         done = subprocess.run([program, str(count)], stdout=subprocess.PIPE, check=True)
         return tuple(map(float, done.stdout.split()))
@@ -110,7 +110,7 @@ def by_program(program):
 
 
 def by_yjs(count):
-    """The same in Yjs, which keeps no answers: a program of node's prints the seconds."""
+    """The same for Yjs, which keeps no answers: a program of node's prints the seconds."""
     done = subprocess.run(['node', TOP / 'bench/faces.js', str(count)], stdout=subprocess.PIPE, check=True)
     return tuple(map(float, done.stdout.split()))
 

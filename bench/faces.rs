@@ -1,4 +1,4 @@
-//! faces COUNT: writes, reads and receives so often through the crate, and prints the seconds of each, as bench/faces.py asks.
+//! faces COUNT: writes, reads and receives COUNT times through the crate, and prints the seconds of each, for bench/faces.py.
 
 use jdoc::{Document, Error, Questions};
 use std::time::Instant;
@@ -19,7 +19,7 @@ fn read_all(document: &mut Document, count: usize) -> Result<(), Error> {
     Ok(())
 }
 
-/// Receives all that the source has, which may take several bundles, and returns the seconds of the receipts.
+/// Receives everything that the source has, which may take several bundles, and returns the seconds of the receipts.
 fn receive_all(document: &mut Document, source: &mut Document) -> Result<f64, Error> {
     let mut seconds = 0.0;
     loop {

@@ -1,7 +1,7 @@
 #!/usr/bin/env bash
-# c.sh: builds the library for C, and runs the example in examples/c over it: as it is, with memory checked by valgrind, and by what
-# the compiler puts in. Each run must print what tests/c/shopping.stdout has, and nothing else. Then it runs tests/c/refused.c once for
-# each allocation that it makes, with that one refused. Leaves out what the machine lacks, and says so.
+# c.sh: builds the library for C, and runs the example in examples/c with it: as it is, under valgrind, and with the compiler's
+# sanitizers. Each run must print what tests/c/shopping.stdout has, and nothing else. Then it runs tests/c/refused.c once for each
+# allocation that it makes, with that one refused. Leaves out what the machine lacks, and says so.
 set -euo pipefail
 top=$(cd "$(dirname "$0")/.." && pwd)
 kit=$(dirname "$(rt doc)")
@@ -21,7 +21,7 @@ compiled() {
         "$top/$file" "$library" "$kit/c/liblibc_c.a" -pthread
 }
 
-# played NAME WORD..: runs a program, by these words, in a folder of its own, and compares what it prints.
+# played NAME WORD..: runs a program, with these words, in a folder of its own, and compares what it prints.
 played() {
     local name=$1
     shift
@@ -61,8 +61,8 @@ if command -v valgrind > "$room/said"; then
 else
     echo "c: no valgrind here"
 fi
-# Not by -fsanitize=thread: the library isn't compiled by it, so it sees what the library allocates and copies, and not the atomics that
-# order them.
+# Not with -fsanitize=thread: the library isn't compiled with it, so it would see what the library allocates and copies, but not the
+# atomics that order that.
 if echo 'int main(void) { return 0; }' > "$room/empty.c" && cc -fsanitize=address -o "$room/empty" "$room/empty.c" 2> "$room/said"; then
     compiled address examples/c/shopping.c -fsanitize=address
     played address "$room/address"

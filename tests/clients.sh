@@ -1,7 +1,7 @@
 #!/usr/bin/env bash
 # clients.sh [PROGRAM]: runs the tests of the Python package and of the application in it with the proved program, or with another one.
-# Then, without another one, those of the package that don't speak of a program, over the library for C. Says how many tests there are,
-# and fails if any does.
+# Then, unless another one is given, those of the package that don't concern a program, with the library for C. Says how many tests there
+# are, and fails if any does.
 set -euo pipefail
 top=$(cd "$(dirname "$0")/.." && pwd)
 program=$(realpath "${1:-$top/crates/jdoc/out/jdoc}")
@@ -11,7 +11,7 @@ trap 'rm -rf "$said" "$room"' EXIT
 passed=0
 failed=0
 
-# Builds the program where it isn't: 'rt ci' has proved it.
+# Builds the program if it isn't built: 'rt ci' has proved it.
 if [ ! -x "$program" ]; then
     if [ $# != 0 ]; then
         echo "clients: FAILED: there is no program $program"
@@ -27,16 +27,16 @@ if [ "$("$program" serve --number 1 < /dev/null 2> "$said")" != '["ready",1,0]' 
     exit 1
 fi
 
-# Each write is synced before its reply: on a disk that is busy that takes minutes, and what a disk keeps isn't tested here.
+# Each write is synced before its reply: on a busy disk that takes minutes, and what a disk keeps isn't tested here.
 if [ -d /dev/shm ] && [ -w /dev/shm ]; then
     export TMPDIR=/dev/shm
 fi
 
-# tested NAME WORD..: runs tests by the words of unittest.
+# tested NAME WORD..: runs tests with these words of unittest.
 tested() {
     local name=$1
     shift
-    # A file that isn't closed is a fault too, and what Python compiles stays out of the tree.
+    # A file that isn't closed is a fault too, and what Python compiles is kept out of the tree.
     if JDOC=$program PYTHONPATH=$top/clients/python:$top/clients/python/tests PYTHONDONTWRITEBYTECODE=1 \
         timeout 600 python3 -W error -m unittest "$@" > "$said" 2>&1 && grep -q '^OK$' "$said"; then
         passed=$((passed + $(sed -n 's/^Ran \([0-9]*\) tests\{0,1\} .*/\1/p' "$said")))

@@ -1,6 +1,6 @@
 #!/usr/bin/env python3
-"""crates.py [--write]: tests that the table of crates in docs/ARCHITECTURE.md says of each what the head of its lib.rt or main.rt says
-first, in the order of crates.txt; with --write, writes that table."""
+"""crates.py [--write]: tests that the table of crates in docs/ARCHITECTURE.md has for each the first paragraph of its lib.rt or
+main.rt, in the order of crates.txt; with --write, writes that table."""
 import re
 import sys
 from pathlib import Path
@@ -11,7 +11,7 @@ TABLE = re.compile(r"^\| Crate \| What it is \|\n(?:\|.*\n)*", re.MULTILINE)
 
 
 def first_paragraph(crate):
-    """What the head of the crate's root file says before its first empty line."""
+    """The head of the crate's root file, up to its first empty line."""
     root = next(it for end in ("lib", "main") if (it := TOP / f"crates/{crate}/src/{end}.rt").is_file())
     said = []
     for line in root.read_text(encoding="utf-8").splitlines():
@@ -22,7 +22,7 @@ def first_paragraph(crate):
 
 
 def rows():
-    """Yields the lines of the table. The crates of tests, which all say the same, share the last one."""
+    """Yields the lines of the table. The crates of tests, whose heads all say the same, share the last one."""
     yield "| Crate | What it is |"
     yield "|---|---|"
     crates = [it.split(":")[0].split()[0] for it in (TOP / "crates.txt").read_text(encoding="utf-8").splitlines() if it]

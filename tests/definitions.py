@@ -1,6 +1,6 @@
 #!/usr/bin/env python3
-"""Tests that each public definition of a crate's specs has a comment directly above it, which says what it means. Lemmas on equality
-have that of their file. Says how many have none, and fails if any has.
+"""Tests that each public definition of a crate's specs has a comment directly above it, which says what it means. For lemmas on equality
+the comment of their file will do. Says how many definitions have none, and fails if there are any.
 """
 import pathlib
 import re
@@ -13,7 +13,7 @@ LEMMA = re.compile(r": (\(.*\) → )?(Decides|IsEquivalence) ")
 
 
 def is_field(before, indent):
-    """Whether the line of this indent stands in the record that the lines before it begin."""
+    """Whether the line of this indent is in the record that the lines before it begin."""
     outer = (it for it in reversed(before) if it.strip() and len(it) - len(it.lstrip()) < indent)
     return indent > 0 and not next(outer).lstrip().startswith("module ")
 

@@ -1,7 +1,7 @@
 #!/usr/bin/env python3
-"""Tests that each wrong edit can be applied: its file is there, and each text to be replaced stands in it exactly once.
+"""Tests that each wrong edit can be applied: its file exists, and each text to be replaced is in it exactly once.
 
-`rt ci` only notes an edit that it can't apply, so a bug would lose its edit without a word. Says how many can't be applied,
+`rt ci` only notes an edit that it can't apply, so a bug would lose its edit silently. Says how many can't be applied,
 and fails if any can't.
 """
 import pathlib

@@ -1,5 +1,5 @@
 #!/usr/bin/env bash
-# Whether each crate's files are laid out as `rt fmt` lays them out. `rt ci` tests it too, but only when it comes to that crate.
+# Whether each crate's files are laid out as `rt fmt` lays them out. `rt ci` tests that too, but only when it gets to that crate.
 set -euo pipefail
 cd "$(dirname "$0")/.."
 room=$(mktemp -d)

@@ -1,5 +1,5 @@
 #!/usr/bin/env python3
-"""Tests that the names which pages cite are there: in README.md, docs/*.md and the READMEs of crates, clients and examples
+"""Tests that the names that pages cite exist: in README.md, docs/*.md and the READMEs of crates, clients and examples
 
 - laws and functions as `file::function` or `crate::function`, methods and fields as `Type::name`, definitions as `Module.word` or
   `crate.Module.word`;
@@ -7,9 +7,9 @@
 - every other name of one word, which must be a word of some source, script or edit, or one of `ELSEWHERE`;
 - in docs/RULES.md the tests, each with its crate;
 - in docs/GUARANTEES.md all columns of its tables of claims: functions with the clauses behind them, laws, and tests and wrong edits, each
-  with a crate that has it. A cell that has none of what it is for has a dash.
+  with a crate that has it. A cell with nothing of its kind has a dash.
 
-CHANGELOG.md isn't read: it names what was there once. Says how many names are missing, and fails if any is.
+CHANGELOG.md isn't read: it names things that no longer exist. Says how many names are missing, and fails if any is.
 """
 import functools
 import re
@@ -23,9 +23,9 @@ CLAIMS = ["Claim", "Contract", "Law", "Tests", "Wrong edits"]
 NAMES_WITH_CRATES = re.compile(r"((?:`\w+`(?:, )?)+) \(((?:`\w+`(?:, )?)+)\)")
 # The head of a function, with its contract.
 HEAD = re.compile(r'^( *)(?:pub(?:\(\w+\))? )?(?:const )?(?:extern "C" )?fn (\w+)(.*?)^\1(?:\{|\}|[^\n]*;$)', re.MULTILINE | re.DOTALL)
-# What is no definition and no clause though it looks like one.
+# What looks like a definition or a clause but isn't one.
 FILE_ENDINGS = {"md", "antt", "rt", "py", "txt", "sh"}
-# Names that are no words of this repository, by page: those of the toolchain, of the system, and of what isn't there, or not any more.
+# Names that aren't words of this repository, by page: of the toolchain, of the system, and of what doesn't exist or no longer exists.
 ELSEWHERE = {
     "DECISIONS": {"IsAllowed", "Vec::insert", "arrayvec::ArrayString", "dyn"},
     "GUARANTEES": {"NAME_tests", "of_NAME"},
@@ -89,7 +89,7 @@ def is_method(owner, name):
 
 
 def faults_of(name):
-    """Yields why the name isn't there. A name of another form is none of ours."""
+    """Yields why the name doesn't exist. A name of another form isn't one of ours."""
     if it := re.fullmatch(r"([a-z_]+)::([a-z_0-9]+)", name):
         if not has_function(text_of(f"crates/semantics/src/{it[1]}.rt", f"crates/{it[1]}/src/**/*.rt"), it[2]):
             yield "no such law or function"
@@ -119,7 +119,7 @@ def claims_in(text):
 
 
 def missing_clauses(contracts):
-    """Yields what stands behind a function among contracts, and is no clause of it. A part that names no function speaks of that before
+    """Yields the clauses listed after a function that its contract doesn't have. A part that names no function belongs to the one before
     it."""
     named = set()
     for part in contracts.split(";"):
@@ -131,7 +131,7 @@ def missing_clauses(contracts):
 
 
 def files_of(crate):
-    """The files of a crate and of its tests, where these are a crate of their own or stand in another crate of tests; and the sessions, for
+    """The files of a crate and of its tests, whether these are a crate of their own or in another crate of tests; and the sessions, for
     `scripts`, which plays them."""
     parts = f"*_tests/src/tests/of_{crate}"
     patterns = [f"{crate}/src/**/*.rt", f"{crate}_tests/src/**/*.rt", f"{parts}.rt", f"{parts}/**/*.rt"]
@@ -140,7 +140,7 @@ def files_of(crate):
 
 
 def missing_of(text, kind, has):
-    """Yields each name of a text that stands before crates of which one hasn't got it."""
+    """Yields each name of a text that is followed by crates one of which doesn't have it."""
     for names, crates in NAMES_WITH_CRATES.findall(text):
         for crate in re.findall(r"`(\w+)`", crates):
             for name in re.findall(r"`(\w+)`", names):
@@ -172,7 +172,7 @@ def faults_in_claims(text):
 
 
 def faults_in(page, text, names):
-    """Yields each name of a page that isn't there, and why."""
+    """Yields each name of a page that doesn't exist, and why."""
     for name in sorted(names - ELSEWHERE.get(page, set())):
         yield from ((name, why) for why in faults_of(name))
     if page == "GUARANTEES":

@@ -1,5 +1,5 @@
-/* Refuses one allocation of a program that is loaded with it (LD_PRELOAD): the nth, where REFUSE is n. Once it does, it makes
-   the file whose name REFUSED has. */
+/* Refuses one allocation of a program that is loaded with it (LD_PRELOAD): the nth, if REFUSE is n. When it does, it creates the file
+   that REFUSED names. */
 typedef unsigned long size_t;
 
 extern void *__libc_malloc(size_t);

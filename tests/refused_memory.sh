@@ -1,6 +1,6 @@
 #!/usr/bin/env bash
 # refused_memory.sh [CRATE..]: runs the tests of each crate's src/tests/refused_memory.rt once for each allocation that they
-# make, with that one refused. 'rt ci' or 'rt test' has built them. What is refused is called again, so each run must pass.
+# make, with that one refused. 'rt ci' or 'rt test' has built them. A refused call is made again, so each run must pass.
 set -euo pipefail
 top=$(cd "$(dirname "$0")/.." && pwd)
 room=$(mktemp -d)
@@ -38,7 +38,7 @@ crates_with_such_tests() {
     done
 }
 
-# The sweeps run side by side.
+# The sweeps run in parallel.
 failed=0
 sweeps=()
 for crate in ${*:-$(crates_with_such_tests)}; do

@@ -1,6 +1,6 @@
 #!/usr/bin/env bash
-# rust.sh: builds the library for C, and runs the tests and the example of the Rust crate in clients/rust over it. The example must print
-# what tests/c/rust.stdout has. Says so where there is no cargo.
+# rust.sh: builds the library for C, and runs the tests and the example of the Rust crate in clients/rust with it. The example must print
+# what tests/c/rust.stdout has. Says so if there is no cargo.
 set -euo pipefail
 top=$(cd "$(dirname "$0")/.." && pwd)
 kit=$(dirname "$(rt doc)")

@@ -1,6 +1,6 @@
 #!/usr/bin/env bash
 # sessions.sh [PROGRAM]: plays each session of tests/scripts, and each script of examples, with the proved program, or with another one,
-# and compares its replies with those that stand there. Says how many differ, and fails if any does.
+# and compares the replies with the expected ones. Says how many differ, and fails if any does.
 #
 # A session is a script with its replies: '> ' before each of its lines, '< ' before the reply to the one above, and '# ' before what it
 # shows. Its first line has no reply, and each other line has one.
@@ -10,7 +10,7 @@ program=${1:-$top/crates/jdoc/out/jdoc}
 played=0
 failed=0
 
-# Builds the program where it isn't: 'rt ci' has proved it.
+# Builds the program if it isn't built: 'rt ci' has proved it.
 if [ ! -x "$program" ]; then
     (cd "$top/crates/jdoc" && rt run -- run < stdin > /dev/null)
 fi
@@ -23,7 +23,7 @@ replayed() {
     paste -d '\n' <(tail -n +2 <<< "$script" | sed 's/^/> /') <("$program" run <<< "$script" | sed 's/^/< /')
 }
 
-# Counts a comparison of two files, of which the second is what the program said.
+# Counts a comparison of two files, the second of which is what the program printed.
 compare() {
     played=$((played + 1))
     if ! diff -u "$1" "$2"; then

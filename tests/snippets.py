@@ -1,8 +1,8 @@
 #!/usr/bin/env python3
-"""Tests that the code which README.md and docs/EMBEDDING.md show is code that the gate builds: the line in front of a block of Rattle,
-Rust or C, or of one that begins with `py`, names the file that it is from, and the block's lines are there in their order. Spaces at both
-ends of a line, comments, and what `{ .. }` leaves out aren't compared. Blocks that begin with `python` are whole programs, which the tests
-of clients/python run."""
+"""Tests that the code in README.md and docs/EMBEDDING.md is code that the gate builds: the line before a block of Rattle, Rust or C, or
+before one that begins with `py`, names the file that it is from, and that file has the block's lines in the same order. Spaces at both ends
+of a line, comments, and what `{ .. }` leaves out aren't compared. Blocks that begin with `python` are whole programs, which the tests of
+clients/python run."""
 import re
 import sys
 from pathlib import Path
@@ -20,13 +20,13 @@ def lines_of(code):
 
 
 def first_missing(wanted, there):
-    """The first of the wanted lines that isn't behind the one before it."""
+    """The first of the wanted lines that doesn't come after the one before it."""
     rest = iter(there)
     return next((it for it in wanted if it not in rest), None)
 
 
 def faults_of(page):
-    """Yields what is wrong with a block, and counts nothing that Python's tests run."""
+    """Yields what is wrong with a block; blocks that Python's tests run are skipped."""
     text = (TOP / page).read_text(encoding="utf-8")
     for block in BLOCK.finditer(text):
         files = FILE.findall(block["before"])

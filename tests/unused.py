@@ -1,13 +1,12 @@
 #!/usr/bin/env python3
 """Tests that each public function of a library is reached by a program, or by the library for C, through code that isn't a test, or
-stands in tests/unused.txt with a reason: `CRATE NAME: REASON` or `CRATE Type::NAME: REASON`. What only a listed function reaches is
-reached too. Prints a line for each function that is neither, and for each line of the list that says nothing, and fails if there is any.
+is listed in tests/unused.txt with a reason: `CRATE NAME: REASON` or `CRATE Type::NAME: REASON`. What only a listed function reaches
+counts as reached. Prints a line for each function that is neither, and for each needless line of the list, and fails if there is any.
 
-What reaches what is read off the text, by names: `.name(` is a method of that name, of the type that something of the name in front of
-it is declared with in the same crate, else of any type; `Type::name` is one of that type; `name(` or `path::name` is a function that
-belongs to no type; each in the crate itself and in those below it. A method of a trait's impl counts as called. So this can't see that
-nothing calls a function whose name one that is called has too, nor that a call is never made. A function with an empty body is a law,
-which nobody calls.
+Calls are found in the text, by names: `.name(` is a method of that name, of the type with which the name in front of it is declared in
+the same crate, else of any type; `Type::name` is one of that type; `name(` or `path::name` is a function that belongs to no type; each
+in the crate itself and in those below it. A method of a trait's impl counts as called. So this can't see that a function is never called
+if another one of the same name is, nor that a call is never made. A function with an empty body is a law, which needs no caller.
 """
 import re
 import sys
@@ -18,14 +17,14 @@ LIST = TOP / "tests/unused.txt"
 PROGRAMS = {"jdoc", "jdoc_c", "meeting", "shopping", "diary", "bench", "workloads", "measures"}
 IMPL = re.compile(r"(?:pub )?(impl|trait)\b(?:<.*?>(?= ))? ?(?:.* for )?&?(?:'\w+ )?(\w+)")
 FUNCTION = re.compile(r"( *)(pub(?:\([^)]*\))? )?(?:const )?fn (\w+)")
-# A name that is called, or handed on as an argument, and what it is called of.
+# A name that is called, or passed as an argument, and what it is called on.
 USE = re.compile(r"(?:(\w*)(?:::<[^()]*>)?(::|\.))?\b([a-z_]\w*)\b(?=\(|::<|\)|,|;)")
 # A field, a parameter or a local, with its type.
 DECLARED = re.compile(r"\b([a-z_]\w*): ([^=;{}()]*?[,;)\n=])")
 
 
 class Function:
-    """A function: its crate, the type that it belongs to if any, and the lines of its body."""
+    """A function: its crate, its type if it has one, and the lines of its body."""
 
     def __init__(self, crate, owner, is_of_trait, is_public, name):
         self.crate, self.owner, self.is_of_trait, self.is_public, self.name = crate, owner, is_of_trait, is_public, name
@@ -37,7 +36,7 @@ class Function:
 
 
 def crates_below():
-    """For each crate of crates.txt itself and those that it uses, directly or not."""
+    """For each crate of crates.txt, the crate itself and those that it uses, directly or indirectly."""
     below = {}
     for line in (TOP / "crates.txt").read_text(encoding="utf-8").splitlines():
         name, _, uses = line.replace(" staticlib", "").partition(":")
@@ -86,7 +85,7 @@ def declared_types(crates):
 
 
 def reached_by(function, named, types):
-    """Yields the functions that the names in a body may mean."""
+    """Yields the functions that the names in a body may refer to."""
     for it in USE.finditer("\n".join(function.body)):
         before, joint, those = it[1], it[2], named.get(it[3], [])
         methods = [f for f in those if f.owner]
@@ -101,7 +100,7 @@ def reached_by(function, named, types):
 
 
 def reach(roots, below, named, types):
-    """The roots, and all that they reach."""
+    """The roots, and everything that they reach."""
     reached, todo = set(roots), list(roots)
     while todo:
         function = todo.pop()

@@ -1,6 +1,6 @@
 #!/usr/bin/env python3
-"""Tests that no page, no comment and no line of a client has a phrase of tests/words.txt. Prints a line for each place, with what to say
-instead, and fails if there is any.
+"""Tests that no page, no comment and no line of a client has a phrase of tests/words.txt. Prints a line for each place, with what to
+write instead, and fails if there is any.
 """
 import re
 import sys
@@ -11,7 +11,7 @@ COMMENTS = {".rt": "//", ".antt": "-- "}
 
 
 def phrases():
-    """Yields each pattern, and what to say instead."""
+    """Yields each pattern, and what to write instead."""
     for line in (TOP / "tests/words.txt").read_text(encoding="utf-8").splitlines():
         if line and line[0] != "#":
             phrase, _, instead = line.partition(": ")

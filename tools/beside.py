@@ -21,7 +21,7 @@ from where import where
 WHO = ("jdoc", "plain maps with serde_json", "plain maps", "Yjs", "SQLite")
 KEYS = asked('["keys",[]]', 1)
 ITEMS = asked('["items",["l"]]', 1)
-# Each with up to how many commands SQLite and Yjs are tried.
+# Each with the most commands with which SQLite and Yjs are tried.
 BESIDE = {
     "assigns at one key": (one(lambda n: (assign("k", i) for i in range(n)), after=KEYS), (100_000,), 100_000, 100_000),
     "assigns at new keys, in mixed order": (one(mixed, after=KEYS), (10_000, 100_000), 10_000, 100_000),
@@ -44,12 +44,12 @@ def printed(command):
 
 
 def shown(document):
-    """What the question at the end of a script asks: the keys in order, or how many items the list has."""
+    """What the question at the end of a script asks for: the keys in order, or how many items the list has."""
     return len(document["l"]) if "l" in document else sorted(document)
 
 
 def told(reply):
-    """The same of the answer to it: keys are texts, and whatever else is listed are items."""
+    """The same from its answer: keys are texts, and anything else that is listed is an item."""
     said = reply[-1]
     return len(said) if said and not isinstance(said[0], str) else said
 
@@ -91,7 +91,7 @@ def main():
 
 
 def cells_of(jdoc, floors, path, size, with_sqlite, with_yjs):
-    """The cells of a row by whose they are, once all have been seen to end alike."""
+    """The cells of a row by program, once all programs were seen to end up the same."""
     replies = printed([jdoc, "run", path])
     last = json.loads(replies.splitlines()[-1])
     asks = last[0] == "reading"

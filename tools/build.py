@@ -1,9 +1,9 @@
 #!/usr/bin/env python3
 """Proves the crates that the program uses, and builds it. `./jdoc build` calls it.
 
-`rt` proves the crates of one checkout one after another. So two crates are proved at a time, each in a copy of the sources of its own, of
-which one is the checkout: of the crates below which all is proved the one with the most above it. `rt` takes over in one copy what it has
-proved in the other.
+`rt` proves the crates of one checkout one after another. So two crates are proved at a time, each in its own copy of the sources, one of
+which is the checkout. Of the crates with everything below them proved, the one with the most above it is next. `rt` reuses in one copy
+what it has proved in the other.
 """
 import os
 import shutil
@@ -16,7 +16,7 @@ from pathlib import Path
 
 TOP = Path(__file__).resolve().parent.parent
 PROGRAM = "jdoc"
-# What two proofs at a time may take.
+# What two simultaneous proofs may take.
 BYTES_FOR_TWO = 8_000_000_000
 MOST_JOBS = 8
 
@@ -26,7 +26,7 @@ def say(text):
 
 
 def crates_of_the_program():
-    """Each crate that the program uses, itself or through others, lowest first, with those that it uses."""
+    """Each crate that the program uses, directly or indirectly, lowest first, with those that it uses."""
     listed = dict(it.split(":", 1) for it in (TOP / "crates.txt").read_text().splitlines() if it and not it.startswith("#"))
     needed = {PROGRAM}
     for name in reversed(listed):
@@ -80,12 +80,12 @@ class Build:
         return int(time.monotonic() - self.start) // 60
 
     def minutes_left(self):
-        """By what was proved so far, as if a crate took as long as it is large."""
+        """Judging by what was proved so far, as if a crate took time in proportion to its size."""
         done = sum(self.weights[it] for it in self.proved)
         return round((time.monotonic() - self.start) / 60 * (sum(self.weights.values()) - done) / done)
 
     def next_crate(self):
-        """Takes the next crate for a lane, and how many jobs its proof gets; None once there is none, or one has failed."""
+        """Takes the next crate for a lane, and how many jobs its proof gets; None if there is none, or if one has failed."""
         with self.changed:
             while self.waiting and not self.failure:
                 ready = [it for it in self.waiting if all(use in self.proved for use in self.crates[it])]
@@ -126,7 +126,7 @@ class Build:
                 log.seek(0)
                 said = log.read()
         except OSError as error:
-            # The other lane must hear of it too, or it would wait for this crate for good.
+            # The other lane must be told too, or it would wait for this crate forever.
             status, said = 1, str(error)
         self.has_ended(name, status, said)
 

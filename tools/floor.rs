@@ -1,7 +1,7 @@
 //! rustc -O tools/floor.rs, then `floor SCRIPT`: does what a script says on plain maps and vectors, and prints what jdoc prints.
-//! It keeps the last value of a key by its id, and operations as they were written; neither conflicts, nor what a delete has seen.
+//! It keeps the last value of a key by its id, and operations as they were written, but neither conflicts nor what a delete has seen.
 //! It knows the steps that tools/measure.py writes: push, step, hello, bundle, deliver, and questions for keys and items.
-//! It reads lines by a parser of its own, which knows no escapes, or, with `--cfg serde` and that library, by serde_json.
+//! It reads lines with a parser of its own, which knows no escapes, or, with `--cfg serde` and that library, with serde_json.
 use std::collections::{BTreeMap, VecDeque};
 use std::fmt::Write as _;
 use std::io::{BufRead, BufReader, BufWriter, Write};
@@ -52,7 +52,7 @@ mod json {
         value(&mut &line[..])
     }
 
-    /// Reads a value, and leaves what comes behind it.
+    /// Reads a value, and leaves what comes after it.
     fn value(rest: &mut &[u8]) -> Json {
         match rest[0] {
             b'[' => {
@@ -103,7 +103,7 @@ fn list(value: &Json) -> &[Json] {
 
 type Id = (u64, u64);
 
-/// What stands at a key.
+/// What is at a key.
 #[derive(Default)]
 struct Node {
     value: Option<(Id, Json)>,
@@ -114,7 +114,7 @@ struct Node {
 /// A command, with the id under which it was made.
 type Op = (Id, Json);
 
-/// What waits in the queue.
+/// A queued submission.
 enum Item {
     Command(Json),
     Peer(Op),

@@ -18,7 +18,7 @@ KINDS = ("proof", "tests", "edits")
 
 
 class Check:
-    """A check that runs, or has ended: of what, its processor seconds, and when it was seen first and last."""
+    """A check that runs, or has ended: what it checks, its processor seconds, and when it was first and last seen."""
 
     def __init__(self, crate, kind, now):
         self.crate, self.kind, self.seconds, self.first, self.last = crate, kind, 0.0, now, now
@@ -33,7 +33,7 @@ def words_of(pid):
 
 
 def kind_of(pid, words):
-    """What a check checks: a check of an edit runs in a folder of its own."""
+    """What a check checks: the check of an edit runs in a folder of its own."""
     try:
         folder = os.readlink(f"/proc/{pid}/cwd")
     except OSError:

@@ -1,6 +1,6 @@
 #!/usr/bin/env python3
-"""tools/in_sqlite.py SCRIPT: does the commands of a script's pushes on one row of a table of SQLite in memory, by its JSON functions,
-and prints the document as JSON. Each change writes the whole text anew. It keeps neither history nor conflicts."""
+"""tools/in_sqlite.py SCRIPT: does the commands of a script's pushes on one row of a table of SQLite in memory, with its JSON functions,
+and prints the document as JSON. Each change rewrites the whole text. It keeps neither history nor conflicts."""
 import json
 import sqlite3
 import sys
@@ -24,7 +24,7 @@ def change(table, verb, path, value=None):
     elif verb == "assign":
         table.execute("update documents set text = json_set(text, ?, json(?))", [place, json.dumps(value)])
     elif path[-1] == 0:
-        # Nothing inserts before the first item: the list is made anew.
+        # No function inserts before the first item: the list is rebuilt.
         at = "$." + path[0]
         table.execute(
             "update documents set text = json_set(text, ?, json('[' || ? || substr(',', 1, json_array_length(text, ?) > 0)"

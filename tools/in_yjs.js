@@ -1,6 +1,6 @@
 // NODE_PATH=/usr/share/nodejs node tools/in_yjs.js SCRIPT: does what a script says on documents of Yjs (Debian's node-yjs), a document
 // for each engine and a transaction for each step, and prints a reply for each line: a bundle's is its bytes, where jdoc counts its
-// operations. A number at the head of a list goes in at index 0, so what two engines insert there stands in the order of Yjs.
+// operations. A number at the head of a list goes in at index 0, so what two engines insert there is in Yjs's order.
 // It knows the steps that tools/measure.py writes: push, step, hello, bundle, deliver, and questions for keys and items.
 const Y = require('yjs');
 const { readFileSync } = require('fs');

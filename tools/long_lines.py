@@ -2,20 +2,20 @@
 """Breaks lines of more than 140 columns in contracts, definitions and proofs: `tools/long_lines.py FILE..`, then `rt fmt` in the
 crate's folder, which lays out what follows each break. `tools/long_lines.py --count` counts the lines that are left, by crate.
 
-A break comes before an operator or an argument that stands as far out as possible, after the `in` of a `let`, or after a `;`. Lists
-of imports are split in two, comments of definitions are filled anew, and raw strings are left alone."""
+A break comes before an operator or an argument with as few brackets around it as possible, after the `in` of a `let`, or after a `;`.
+Lists of imports are split in two, comments of definitions are refilled, and raw strings are left alone."""
 import glob
 import re
 import sys
 
 WIDTH = 140
 OPERATORS = ["→", "↔", "⊎", "×", "||", "&&", "∙", "≡", "++"]
-# What comes first is broken at first.
+# The first in this list are broken first.
 ORDER = ["in", *OPERATORS[:-1], ";", "++", "argument", "head"]
 
 
 def places(line, start):
-    """Where a break may stand: the index, how many brackets are open there, and what follows."""
+    """Where a break may come: the index, how many brackets are open there, and what follows."""
     found, depth, in_text = [], 0, False
     for at, char in enumerate(line):
         if char == '"':

@@ -16,12 +16,12 @@ import tempfile
 from where import where
 
 BATCH = 256
-# How many submissions wait at most. A bundle of more is taken so far, and the rest comes with the next one.
+# The most submissions that wait. Of a larger bundle this many are taken, and the rest comes with the next one.
 QUEUE = 65_536
 SIZES = (1_000, 10_000, 100_000)
 MILLION = 1_000_000
 RUNS = 3
-# In seconds: what takes longer runs once; and what takes longer isn't tried at the next size.
+# In seconds: a row that takes longer than the first runs once; one that takes longer than the second isn't tried at the next size.
 LONG = 3.0
 LONGEST = 6.0
 
@@ -34,7 +34,7 @@ def world(engines):
 
 
 def pushes(engine, commands, each=BATCH):
-    """Commands of an engine, with a step after each so many."""
+    """Commands of an engine, with a step after every so many of them."""
     for number, command in enumerate(commands, 1):
         yield f'["push",{engine},0,{command}]'
         if number % each == 0:
@@ -49,7 +49,7 @@ class Messages:
         self.next = 0
 
     def get(self, to, of, operations):
-        """An engine gets what another one has, so many operations, and handles them."""
+        """An engine gets what another one has, this many operations, and handles them."""
         for done in range(0, operations, QUEUE):
             yield f'["hello",{to},1]'
             yield f'["bundle",{of},1,{self.next}]'
@@ -97,7 +97,7 @@ def one(commands, each=BATCH, before=(), after=()):
 
 
 def meeting(engines, commands):
-    """Engines write, and after each 256 operations of one they all meet."""
+    """Engines write, and after every 256 operations of one they all meet."""
     def lines(n):
         messages = Messages()
         yield world(engines)

@@ -1,7 +1,7 @@
 #!/usr/bin/env python3
-"""picture_of_notes.py: writes examples/notes/notes.svg, which shows the walk of examples/notes/README.md as two terminals have it.
+"""picture_of_notes.py: writes examples/notes/notes.svg, which shows the walk of examples/notes/README.md in two terminals.
 
-Plays two devices in terminals of their own, with the program that JDOC names or that the repository has built. What they paint last
+Plays two devices in terminals of their own, with the program that JDOC names or that the repository has built. What they last painted
 before each step of the walk is in the picture, as they painted it.
 """
 from __future__ import annotations
@@ -22,7 +22,7 @@ from pathlib import Path
 
 TOP = Path(__file__).resolve().parent.parent
 COLUMNS, ROWS = 56, 10
-# The size of a character, and what lies around a terminal and within it.
+# The size of a character, and the margins around a terminal and within it.
 WIDE, HIGH, GAP, EDGE = 8.43, 19, 18, 10
 STYLES = {"0": "#d8dee9", "2": "#7b8494", "33": "#ebcb8b", "1;7": "#ffffff"}
 
@@ -60,7 +60,7 @@ class Terminal:
         time.sleep(2)
 
     def rows(self) -> list[list[tuple[str, str]]]:
-        """The rows of the last painting, each as texts with their styles."""
+        """The rows as they were last painted, each as texts with their styles."""
         last = re.split(r"\x1b\[H", self._painted.decode())[-1]
         last = re.split(r"\x1b8|\x1b\[\d+;1H", last)[0]
         return [re.findall(r"\x1b\[([\d;]*)m(.*?)\x1b\[0m", row) for row in last.split("\r\n")]

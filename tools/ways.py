@@ -1,7 +1,7 @@
 #!/usr/bin/env python3
-"""Prints how many functions, files and crates the three ways of docs/ARCHITECTURE.md go through: those that the functions at which a way
-begins may call, by names, as tests/unused.py reads them. So a number is too large rather than too small, and is of use beside an earlier
-one."""
+"""Prints how many functions, files and crates the three ways of docs/ARCHITECTURE.md go through: those that the functions at the
+beginning of a way may call, by names, as tests/unused.py reads them. So a number is too large rather than too small, and is useful only
+compared with an earlier one."""
 import sys
 from pathlib import Path
 

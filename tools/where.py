@@ -1,4 +1,4 @@
-"""What stands above each table of times: the day, the commit, and the machine."""
+"""The line above each table of times: the day, the commit, and the machine."""
 import datetime
 import os
 import subprocess
@@ -8,7 +8,7 @@ TOP = Path(__file__).resolve().parent.parent
 
 
 def commit_of(top):
-    """The commit of a checkout in seven letters, with a plus where files differ from it."""
+    """The commit of a checkout in seven letters, with a plus if files differ from it."""
     command = ["git", "-C", top, "describe", "--always", "--dirty=+", "--exclude=*", "--abbrev=7"]
     said = subprocess.run(command, capture_output=True, text=True)
     return said.stdout.strip() or "no commit"

@@ -1,5 +1,5 @@
-//! Links the static library. `JDOC_LIBRARIES` names the folders of `libjdoc_c.a` and of the toolchain's `liblibc_c.a`, with a colon between
-//! them; left out, they are those of the repository and of the `rt` that is found.
+//! Links the static library. `JDOC_LIBRARIES` names the folders of `libjdoc_c.a` and of the toolchain's `liblibc_c.a`, separated by a
+//! colon; by default they are those of the repository and of the `rt` on the PATH.
 
 use std::path::PathBuf;
 use std::process::Command;

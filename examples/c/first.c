@@ -1,4 +1,4 @@
-/* One write, and what it is answered: the shortest program with the library. `shopping.c` beside it checks each status, and stores the
+/* One write, and its reply: the shortest program with the library. `shopping.c` beside it checks each status, and stores the
  * journal. */
 #include "jdoc.h"
 

@@ -2,9 +2,9 @@
  *
  *     shopping FOLDER
  *
- * The phone's document is written by this thread, and two other threads follow it and show it, without a lock. The laptop's document is
- * written beside it, and the two exchange what the other lacks, as they would over a network. Each keeps its journal in a file of the
- * folder, which is there beforehand and empty. At the end the phone's document is opened again from its file.
+ * The phone's document is written by this thread, and two other threads follow it and show it, without locks. The laptop's document is
+ * written concurrently, and each gets what it lacks from the other, as they would over a network. Each keeps its journal in a file of the
+ * folder, which must exist and be empty. At the end the phone's document is opened again from its file.
  */
 /* fsync, ftruncate and threads. */
 #define _POSIX_C_SOURCE 200809L
@@ -21,14 +21,14 @@
 
 #define COUNTS 200
 
-/* Ends the program: an example has nobody to tell. */
+/* Ends the program: an example can do nothing else about it. */
 static void fail(const char *what, uint32_t status)
 {
     fprintf(stderr, "shopping: %s: status %u\n", what, (unsigned)status);
     exit(1);
 }
 
-/* Bytes that were allocated, with a 0 behind them. */
+/* Allocated bytes, with a 0 after them. */
 struct text {
     char *bytes;
     size_t length;
@@ -43,10 +43,10 @@ static struct text text_of_length(size_t length)
     return text;
 }
 
-/* A function that copies bytes to the caller, and says how long they are where there is no room for them. */
+/* A function that copies bytes to the caller, and says how long they are, even if they don't fit. */
 typedef uint32_t copies(jdoc_handle *handle, char *out, size_t room, size_t *length);
 
-/* All that it copies. */
+/* Everything that it copies. */
 static struct text copy_of(jdoc_handle *handle, copies *copy, const char *what)
 {
     struct text text = text_of_length(255);
@@ -70,7 +70,7 @@ struct device {
     FILE *journal;
 };
 
-/* Opens a document that goes on from its file, which may be empty. */
+/* Opens a document that resumes from its file, which may be empty. */
 static void open_device(struct device *device, const char *folder, const char *name, uint32_t number)
 {
     char path[4096];
@@ -89,7 +89,7 @@ static void open_device(struct device *device, const char *folder, const char *n
     uint32_t status = jdoc_open(&device->document, number, lines.bytes, lines.length, &taken);
     if (status != JDOC_DONE)
         fail("jdoc_open", status);
-    /* A line that was cut off goes. */
+    /* A line that was cut off is removed. */
     if (ftruncate(fileno(device->journal), (off_t)taken) != 0)
         fail(path, 0);
     free(lines.bytes);
@@ -114,7 +114,7 @@ static void store(struct device *device)
         fail("jdoc_lines_stored", status);
 }
 
-/* The reply to a request, which may be used at once: what it speaks of is stored. */
+/* The reply to a request, which may be used at once: what it calls done is stored. */
 static struct text call(struct device *device, const char *request)
 {
     uint32_t status = jdoc_call(&device->document, request, strlen(request));
@@ -132,7 +132,7 @@ static void show(struct device *device, const char *request)
     free(reply.bytes);
 }
 
-/* The request `[WORD,TEXT]`, where the text is a line that is to be quoted. */
+/* The request `[WORD,TEXT]`, whose text is a line that has to be quoted. */
 static struct text request_of_line(const char *word, const char *line)
 {
     struct text request = text_of_length(strlen(word) + 2 * strlen(line) + 7);
@@ -146,7 +146,7 @@ static struct text request_of_line(const char *word, const char *line)
     return request;
 }
 
-/* The request `["receive",TEXT]`, of a reply `["bundle",TEXT,MORE,BEYOND]`: its text is quoted already. */
+/* The request `["receive",TEXT]`, from a reply `["bundle",TEXT,MORE,BEYOND]`, whose text is already quoted. */
 static struct text request_of_bundle(const char *reply)
 {
     static const char begin[] = "[\"bundle\",";
@@ -162,7 +162,8 @@ static struct text request_of_bundle(const char *reply)
     return request;
 }
 
-/* Hands one device what it lacks of the other one's. All fits into one bundle here; else MORE is true, and it says hello again. */
+/* Gives one device what it lacks from the other one. It all fits into one bundle here; else MORE would be true, and it would say hello
+ * again. */
 static void bring_up_to_date(struct device *device, struct device *peer)
 {
     struct text hello = call(device, "[\"hello\"]");
@@ -178,13 +179,13 @@ static void bring_up_to_date(struct device *device, struct device *peer)
     free(received.bytes);
 }
 
-/* How long the phone's history is in the end; 0 while nobody knows. */
+/* How long the phone's history is at the end; 0 until that is known. */
 static atomic_size_t end_length;
 
-/* How many readers have come to the end. */
+/* How many readers have reached the end. */
 static atomic_int arrived;
 
-/* A reader that shows the document to the end, and the last glance of it. */
+/* A reader that follows the document to the end, and the last glance at it. */
 struct reader {
     jdoc_handle handle;
     struct text shown;

@@ -13,7 +13,7 @@ from screen import HELP, LETTERS, Screen, lines_of
 
 
 class Mistake(Exception):
-    """What the user typed can't be done."""
+    """The user typed something that can't be done."""
 
 
 class Application:
@@ -23,7 +23,7 @@ class Application:
         self._name, self._document = name, document
         self._notes, self._screen = Notes(document), Screen()
         self._links = Links(document, listen, connect)
-        # What a number means: the notes as they were shown last.
+        # What numbers refer to: the notes as they were last shown.
         self._shown: list[Note] = []
         self._message, self._typed, self._has_ended = "", b"", False
 
@@ -53,7 +53,7 @@ class Application:
         *lines, self._typed = (self._typed + data).split(b"\n")
         for line in lines:
             self._do(line.decode(errors="replace").strip())
-            # Of two lines at once, the second means what the first one left.
+            # If two lines come at once, the second refers to what the first one left.
             self._shown = self._notes.all()
 
     def _do(self, line: str) -> None:

@@ -1,7 +1,7 @@
 """Links to other devices: what goes over their sockets, and when.
 
-A frame is a byte that says what it is, four bytes with the length of its data, and the data. Each side says HELLO as a link comes up,
-and after each NEWS. A HELLO is answered with a bundle of what that side lacks, and whoever has something new says NEWS to all others.
+A frame is a byte that says what it is, four bytes with the length of its data, and the data. Each side says HELLO when a link comes up,
+and after each NEWS. A HELLO is answered with a bundle of what its sender lacks, and a side with something new says NEWS to all others.
 """
 import selectors
 import socket
@@ -35,7 +35,7 @@ class Link:
         return selectors.EVENT_READ | (selectors.EVENT_WRITE if self._unsent else 0)
 
     def frames(self) -> Iterator[tuple[bytes, bytes]]:
-        """Reads what is there, and yields the frames that are whole. Raises EOFError at the end, ValueError at what none of ours sends."""
+        """Reads what is there, and yields the frames that are whole. Raises EOFError at the end, ValueError for what we never send."""
         data = self.sock.recv(1 << 20)
         if not data:
             raise EOFError
@@ -51,7 +51,7 @@ class Link:
 
 
 class Links:
-    """The links of a document. `fault` is what went wrong last. Where `is_behind`, another device knows operations of this one that
+    """The links of a document. `fault` is what went wrong last. If `is_behind`, another device knows operations of this one that
     aren't here: its file was restored from an old copy."""
 
     def __init__(self, document: Document, listen: Optional[Address], connect: Optional[Address]) -> None:
@@ -78,7 +78,7 @@ class Links:
             self._server = None
 
     def seek(self) -> bool:
-        """Connects where a link is wanted and none is there. Whether to try again in a while."""
+        """Connects if a link is wanted and there is none. Returns whether to try again in a while."""
         if self.is_online and self._connect and not self.links:
             try:
                 self._open(socket.create_connection(self._connect, timeout=0.5))
@@ -110,7 +110,7 @@ class Links:
 
     def _serve(self, link: Link, events: int) -> None:
         """Reads and sends what can be, and drops a link that ended."""
-        # What was handled before it may have dropped it.
+        # An event handled before this one may have dropped the link.
         if link not in self.links:
             return
         try:

@@ -1,7 +1,7 @@
 """The notes in a document: what they are made of, and each thing that can be done to them.
 
 At `notes` is a map with a map for each note, under a key that its device made up: `text`, and `done` once it was ticked. At `order` is a
-list of these keys. So a note is written where it is, wherever it was moved, and a move loses nothing that was written apart.
+list of these keys. So a write goes to the note itself, wherever it was moved, and a move loses nothing that was written concurrently.
 """
 from typing import NamedTuple, Optional
 
@@ -9,9 +9,9 @@ from jdoc import Document, ItemId
 
 
 class Note(NamedTuple):
-    """A note. `texts` are its texts, each with the number of the device that wrote it; of several, written apart, one is to be kept.
-    `done` is None where devices disagree. `places` are the items of `order` that have its key, the last of which counts: two devices may
-    have moved it apart."""
+    """A note. `texts` are its texts, each with the number of the device that wrote it; of several concurrent ones, one is to be kept.
+    `done` is None if devices disagree. `places` are the items of `order` that have its key, the last of which counts: two devices may
+    have moved it concurrently."""
 
     key: str
     texts: list[tuple[str, int]]
@@ -26,7 +26,7 @@ class Notes:
         self._document = document
 
     def all(self) -> list[Note]:
-        """The notes in their order. What lacks a text isn't shown: it was deleted here, and ticked there."""
+        """The notes in their order. A note without a text isn't shown: one device deleted it, and another ticked it."""
         ids, keys = self._document.items("order"), self._document.get("order")
         found = []
         for key in self._document.keys("notes"):
@@ -40,25 +40,25 @@ class Notes:
 
     def add(self, text: str) -> None:
         """Adds a note at the end."""
-        # No two notes of a device begin at one length of its history, and no other device has its number.
+        # No two notes of a device are added at the same length of its history, and no other device has its number.
         key = f"{self._document.number}.{len(self._document)}"
         self._document.set(("notes", key, "text"), text)
         self._document.append("order", key)
 
     def change(self, note: Note, text: str) -> None:
-        """Writes over the text, or over all of them."""
+        """Overwrites the text, or all of them."""
         self._document.set(("notes", note.key, "text"), text)
 
     def tick(self, note: Note, done: bool) -> None:
-        """Ticks the note off, or takes that back."""
+        """Ticks the note off, or unticks it."""
         self._document.set(("notes", note.key, "done"), done)
 
     def delete(self, note: Note) -> None:
-        """Deletes the note. Its place stays: a text that another device writes apart brings it back where it was."""
+        """Deletes the note. Its place stays: a text that another device writes concurrently brings it back where it was."""
         self._document.delete(("notes", note.key))
 
     def move(self, note: Note, behind: Optional[Note]) -> None:
-        """Moves the note behind another one, or to the front."""
+        """Moves the note after another one, or to the front."""
         if behind and behind.places:
             self._document.insert_after(("order", behind.places[-1]), note.key)
         else:

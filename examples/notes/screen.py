@@ -30,14 +30,14 @@ def lines_of(title: str, notes: Sequence[Note], message: str) -> list[Line]:
 
 
 class Screen:
-    """Shows lines: on a terminal over those before, with what is typed beneath, and else one after another where they changed."""
+    """Shows lines: on a terminal in place of those before, with what is typed beneath; else one after another, if they changed."""
 
     def __init__(self) -> None:
         self._last: Sequence[Line] = []
 
     def show(self, lines: Sequence[Line], is_typing: bool) -> None:
         """Shows these. While the user is typing, the lowest row stays as it is."""
-        # A text may come from anyone, and none of it is an order to the terminal.
+        # A text may come from anyone, and nothing in it may control the terminal.
         lines = [(style, "".join(it if it.isprintable() else "?" for it in text)) for style, text in lines]
         if sys.stdout.isatty():
             self._paint(lines, is_typing)

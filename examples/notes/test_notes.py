@@ -60,7 +60,7 @@ class Device:
         self.process.stdin.flush()
 
     def await_screen(self, *lines: str, title: str = "") -> None:
-        """Waits until it shows these lines, beneath a title with this in it."""
+        """Waits until it shows these lines, beneath a title that contains this."""
         def is_shown() -> bool:
             return self.screen == [*lines] and title in self.title
 
@@ -133,7 +133,7 @@ class Devices(unittest.TestCase):
         kitchen.await_screen("  1 [ ] A", "  2 [ ] E", "  3 [ ] D, changed")
         phone.type("online")
         for it in (kitchen, phone):
-            # Of the two moves of D that with the greater id counts, and C, of which a tick alone is left, isn't shown.
+            # Of the two moves of D, the one with the greater id counts; C, of which only a tick is left, isn't shown.
             it.await_screen("  1 [?] A", "  2 [ ] B, changed", "  3 [ ] E", "  4 [ ] D, changed", title="online, 1 linked")
         phone.type("undo 1", "move 1 4")
         for it in (kitchen, phone):
@@ -190,7 +190,7 @@ class Devices(unittest.TestCase):
         phone.process.kill()
         phone.process.wait()
         with (self.folder / "phone.notes").open() as file:
-            # Its program needs a moment to notice that its input has ended, and to let the file go.
+            # Its program needs a moment to notice that its input has ended, and to close the file.
             fcntl.flock(file, fcntl.LOCK_EX)
         self.device("phone").await_screen("  1 [ ] A")
 

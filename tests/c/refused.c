@@ -1,5 +1,5 @@
-/* A document, its reader and a peer, to be run with each allocation refused in turn (tests/c.sh): what is refused is called again, and in
- * the end all is as ever. It allocates nothing itself, and prints only what went wrong.
+/* A document, its reader and a peer, run with each allocation refused in turn (tests/c.sh): a refused call is made again, and at the end
+ * everything is as usual. It allocates nothing itself, and prints only what went wrong.
  */
 #include "jdoc.h"
 
@@ -19,7 +19,7 @@ static void expect(int is_so, const char *what)
     }
 }
 
-/* Calls again what had no memory: one allocation of a run is refused. */
+/* Makes a call again if its allocation failed: one allocation of a run is refused. */
 #define AGAIN(call) \
     do { \
         uint32_t status = (call); \
@@ -35,7 +35,7 @@ static void take_reply(jdoc_handle *handle)
     reply[length] = '\0';
 }
 
-/* Leaves the reply to a question, of a document or of a reader. */
+/* Gets the reply to a question, from a document or from a reader. */
 static void ask(jdoc_handle *handle, uint32_t (*call)(jdoc_handle *, const char *, size_t), const char *question)
 {
     AGAIN(call(handle, question, strlen(question)));
@@ -46,7 +46,7 @@ static void ask(jdoc_handle *handle, uint32_t (*call)(jdoc_handle *, const char 
     }
 }
 
-/* Asks for a change until the document has so many operations, and for a save until all count as saved. */
+/* Asks for a change until the document has this many operations, and for a save until all count as saved. */
 static void change(jdoc_handle *document, const char *request, int wanted)
 {
     int number, length = -1, saved = -1;
@@ -60,7 +60,7 @@ static void change(jdoc_handle *document, const char *request, int wanted)
     expect(length == wanted && saved == wanted, request);
 }
 
-/* The request `["receive",TEXT]`, of what the document has for a peer that knows nothing. */
+/* The request `["receive",TEXT]`, with what the document has for a peer that knows nothing. */
 static void bundle(jdoc_handle *document, char *request)
 {
     ask(document, jdoc_call, "[\"answer\",\"[\\\"hello\\\",[]]\"]");

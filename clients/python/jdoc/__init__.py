@@ -1,6 +1,6 @@
-"""A local-first JSON document: maps, lists and registers that several devices edit apart, and that show the same once they met.
+"""A local-first JSON document: maps, lists and registers that several devices edit offline, and that agree once they meet.
 
-`Document.open` starts the program `jdoc serve` and speaks with it over a pipe, or calls the library for C where `build_library` made it.
+`Document.open` starts the program `jdoc serve` and speaks with it over a pipe, or calls the library for C if `build_library` made it.
 All that a document does is done there; this package turns calls into requests, and refusals into exceptions.
 """
 from .document import Answer, BadLine, Document, ItemId, Path, Receipt, Scalar, Status, Step, Value

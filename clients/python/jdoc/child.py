@@ -1,4 +1,4 @@
-"""The program as a child process: a line to it, a line back."""
+"""The program as a child process: one line to it, one line back."""
 from __future__ import annotations
 
 import subprocess
@@ -19,10 +19,10 @@ class Child:
         self._name = words[0]
         # Why it ended, once it has.
         self._end: Optional[str] = None
-        # Unlike a pipe, a file never fills up, so nobody has to read it while the program runs.
+        # Unlike a pipe, a file never fills up, so it needn't be read while the program runs.
         self._said = tempfile.TemporaryFile()
         try:
-            # In a session of its own, so that Ctrl-C in a terminal is the application's. At that one's end the input ends too.
+            # In a session of its own, so that Ctrl-C in a terminal goes to the application only. When that ends, the input ends too.
             self._process = subprocess.Popen(
                 words, stdin=subprocess.PIPE, stdout=subprocess.PIPE, stderr=self._said, start_new_session=True
             )
@@ -33,7 +33,7 @@ class Child:
         self._input, self._output = self._process.stdin, self._process.stdout
 
     def ask(self, line: bytes) -> bytes:
-        """Hands the line to the program, and returns the next one that it says. Raises `Died` where none comes, and ever after."""
+        """Sends the line to the program, and returns the next line from it. Raises `Died` if none comes, and from then on always."""
         if self._end is not None:
             raise Died(self._end)
         try:
@@ -43,7 +43,7 @@ class Child:
         except OSError:
             reply = b""
         except BaseException:
-            # An interrupt, as by Ctrl-C: the reply that still comes would be taken for that to the next request.
+            # An interrupt, such as Ctrl-C: the reply that still comes would be taken for the reply to the next request.
             self.end("was stopped, since a request was interrupted")
             raise
         if not reply.endswith(b"\n"):
@@ -51,7 +51,7 @@ class Child:
         return reply
 
     def end(self, why: str = "") -> str:
-        """Stops the program, and returns why: this reason, or its status, and what it said."""
+        """Stops the program, and returns why: this reason, or its status and what it said."""
         if why:
             self._process.kill()
         status = self._stop()
@@ -63,12 +63,12 @@ class Child:
         return self._end
 
     def close(self) -> None:
-        """Lets the program end, and waits for that."""
+        """Makes the program end, and waits for that."""
         self._stop()
         self._said.close()
 
     def _stop(self) -> int:
-        # What an ended program didn't read can't be written any more.
+        # The program has ended, so what it didn't read can't be written any more.
         with suppress(OSError):
             self._input.close()
         try:

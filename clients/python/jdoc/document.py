@@ -13,7 +13,7 @@ from .library import Library
 
 
 class ItemId(NamedTuple):
-    """The id of an operation. That of an insert is the id of its item for good, wherever the item moves."""
+    """The id of an operation. That of an insert is the id of its item for good, wherever the item's position moves."""
 
     counter: int
     replica: int
@@ -30,7 +30,7 @@ Words = Union[str, "os.PathLike[str]", Sequence[str]]
 
 class Answer(NamedTuple):
     """What a peer lacks. `more`: it lacks more, and says hello again once it has received this. `beyond`: the peer knows operations of this
-    device that don't stand here. The file was rolled back, or the number is used twice: write no more under it."""
+    device that aren't here. The file was rolled back, or the number is used twice: write no more under it."""
 
     lines: bytes
     more: bool
@@ -38,15 +38,15 @@ class Answer(NamedTuple):
 
 
 class BadLine(NamedTuple):
-    """A line of a bundle, counted from 1, and why it isn't taken, as `Refused.code`."""
+    """A line of a bundle, counted from 1, and why it wasn't taken, as in `Refused.code`."""
 
     line: int
     code: str
 
 
 class Receipt(NamedTuple):
-    """What became of a bundle: how many of its lines were taken, how many operations on these were refused, and the first one of them, and
-    the line at which it stopped. What wasn't refused is applied, waits for others, or was known."""
+    """The outcome of a bundle: how many of its lines were taken, how many operations on these were refused, the first one of them, and the
+    line at which reading stopped. What wasn't refused is applied, waits for others, or was known."""
 
     taken: int
     refused: int
@@ -62,26 +62,26 @@ class Status(NamedTuple):
     saved: int
 
 
-# The longest path that a document has, and more elements than any has: each of its 1,048,576 operations reaches 33 at most.
+# The greatest depth of a document, and more elements than any has: each of its 1,048,576 operations adds 33 at most.
 MOST_DEPTH = 32
 MOST_ELEMENTS = 1_048_576 * (MOST_DEPTH + 1)
-# How many bytes a request has at most, with its line feed, and the greatest number of a device.
+# The most bytes of a request, with its line feed, and the greatest number of a device.
 MOST_BYTES = 33_554_432
 MOST_NUMBER = 4_294_967_295
-# Where `build_library` leaves the library.
+# Where `build_library` puts the library.
 BUILT = os.path.join(os.path.dirname(os.path.abspath(__file__)), "libjdoc.so")
 
 
 class Document:
-    """A replica of a document, in a program of its own, or by the library in this process. All calls may come from several threads: each
-    request has its reply before the next one goes out. What the engine refuses is raised as `Refused`. Any call may raise `Died`, and one
-    that writes or receives `Unsaved` and `Lost`; by the library an `answer` does so too, while something isn't saved.
+    """A replica of a document, in a program of its own, or in this process with the library. All calls may come from several threads: each
+    request gets its reply before the next one is sent. What the engine refuses is raised as `Refused`. Any call may raise `Died`, and one
+    that writes or receives may raise `Unsaved` and `Lost`; with the library `answer` may too, while something isn't saved.
 
-    A position is counted when the call is handled. To hit the item that was seen, use its id, from `items` or from `insert`.
+    A position is counted when the call is handled. To be sure of the item that was seen, use its id, from `items` or from `insert`.
     """
 
     def __init__(self, child: Union[Child, Library]) -> None:
-        """Of a program that was started, or of the library; `open` does that."""
+        """For a program that was started, or the library; `open` calls this."""
         self._child = child
         self._lock = threading.RLock()
         self._is_closed = False
@@ -92,14 +92,14 @@ class Document:
         cls, path: Union[None, str, os.PathLike[str]] = None, *, number: Optional[int] = None, program: Optional[Words] = None,
         library: Union[None, str, os.PathLike[str]] = None
     ) -> Document:
-        """Opens the document that is kept in the file `path`, which is made where it isn't there, or one in memory.
+        """Opens the document that is kept in the file `path`, which is created if it doesn't exist, or one in memory.
 
-        `number` is this device's, from 1 to 4294967295, which no other device of the document has. A file in which it has written
-        knows it; else one is drawn where none is given.
+        `number` is this device's, from 1 to 4294967295, which no other device of the document has. A file in which the device has
+        written knows the number; else a random one is used if none is given.
 
         `program` is the path of the program that keeps the document, or its words; `library` is the shared object that keeps it in this
-        process. Where neither is given, the environment's `JDOC_LIBRARY` is the library's path, else its `JDOC` the program's; else it
-        is the library that `build_library` made, else `jdoc` on the PATH.
+        process. If neither is given, the environment's `JDOC_LIBRARY` is the library's path, or else its `JDOC` is the program's; or else
+        it is the library that `build_library` made, or else `jdoc` on the PATH.
         """
         if number is None and not (path is not None and _knows_number(path)):
             number = 1 + secrets.randbelow(MOST_NUMBER)
@@ -131,20 +131,20 @@ class Document:
         self.close()
 
     def set(self, path: Path, value: Value) -> ItemId:
-        """Writes a value over all that stands at the path, and returns the operation's id.
+        """Writes a value over everything at the path, and returns the operation's id.
 
-        A dict or a list is written part by part, so a peer may see some of it, and where a part is refused those before it stand. A
-        document has whole numbers of 64 bits alone: a float is refused (E21). What lies within is looked at before anything is written.
+        A dict or a list is written part by part, so a peer may see some of it, and if a part is refused those before it stay. A
+        document has only whole numbers of 64 bits: a float is refused (E21). All parts are checked before anything is written.
         """
         return self._write_checked("assign", _expression(path), value)
 
     def insert(self, path: Path, position: int, value: Value) -> ItemId:
-        """Inserts an item into the list at the path so that it has this position, and returns its id. A position behind the end is
+        """Inserts an item into the list at the path so that it has this position, and returns its id. A position past the end is
         refused (E3)."""
         return self._write_checked("insert", [*_expression(path), _from_one(position) - 1], value)
 
     def insert_after(self, path: Path, value: Value) -> ItemId:
-        """Inserts an item right behind the one at the path, and returns its id."""
+        """Inserts an item right after the one at the path, and returns its id."""
         return self._write_checked("insert", _expression(path), value)
 
     def append(self, path: Path, value: Value) -> ItemId:
@@ -154,7 +154,7 @@ class Document:
             return self._write_checked("insert", _expression(path) + before, value)
 
     def delete(self, path: Path) -> ItemId:
-        """Deletes what stands at the path, and returns the operation's id. What others write there at the same time stays."""
+        """Deletes what is at the path, and returns the operation's id. What others write there concurrently stays."""
         return self._make("delete", _expression(path))
 
     def _write_checked(self, command: str, place: List[object], value: Value) -> ItemId:
@@ -180,42 +180,42 @@ class Document:
         return ItemId(*self._ask("made", *command)[1])
 
     def get(self, *path: Path, depth: int = MOST_DEPTH, elements: int = 100_000) -> Any:
-        """What stands at the path, as plain values: a dict, a list, a scalar, or None where nothing stands.
+        """What is at the path, as plain values: a dict, a list, a scalar, or None if nothing is present.
 
-        Where several things stand at once, after concurrent writes, is `{"?": "conflict"}` with `"values"`, `"map"` and `"list"`, as far
-        as they stand there. What lies deeper than `depth`, or behind so many `elements`, is cut: a dict then has `"?": "cut"`, and a
-        list ends in `{"?": "cut"}`. A key of the document that begins with `?` has one more in front.
+        If several things are present at once, after concurrent writes, it is `{"?": "conflict"}` with those of `"values"`, `"map"` and
+        `"list"` that are present. What is deeper than `depth`, or after the first `elements` elements, is cut: a dict then has
+        `"?": "cut"`, and a list ends in `{"?": "cut"}`. A key of the document that begins with `?` gets one more in front.
         """
         return self._ask("glance", "glance", _expression(*path), depth, elements)[2]
 
     def to_json(self) -> str:
-        """The whole document as text, as `get` has it."""
+        """The whole document as text, in the form of `get`."""
         return json.dumps(self.get(elements=MOST_ELEMENTS), ensure_ascii=False, indent=2)
 
     def values(self, *path: Path) -> List[Tuple[ItemId, Scalar]]:
-        """The values of the register at the path with the ids of their writes, rising by id. More than one are a conflict."""
+        """The values of the register at the path with the ids of their writes, in ascending id order. More than one is a conflict."""
         return [(ItemId(*it), value) for it, value in self._ask("reading", "values", _expression(*path))[2]]
 
     def keys(self, *path: Path) -> List[str]:
-        """The keys of the map at the path, rising by their bytes."""
+        """The keys of the map at the path, in ascending byte order."""
         keys: List[str] = self._ask("reading", "keys", _expression(*path))[2]
         return keys
 
     def items(self, *path: Path) -> List[ItemId]:
-        """The ids of the items of the list at the path, in its order."""
+        """The ids of the items of the list at the path, in list order."""
         return [ItemId(*it) for it in self._ask("reading", "items", _expression(*path))[2]]
 
     def conflicts(self, *path: Path) -> List[Tuple[ItemId, str]]:
-        """What keeps the element at the path visible, rising by id: each live write at it or beneath, and whether that makes it a
+        """What keeps the element at the path visible, in ascending id order: each live write at it or beneath, and whether that makes it a
         `"map"`, a `"list"` or a register, `"reg"`. More than one register, or different ones of these, are a conflict."""
         return [(ItemId(*it), tag) for it, tag in self._ask("reading", "conflicts", _expression(*path))[2]]
 
     def hello(self) -> bytes:
-        """A line for a peer, which says what is known here."""
+        """A line that tells a peer what is known here."""
         return _line(self._ask("hello", "hello"))
 
     def answer(self, hello: bytes) -> Answer:
-        """What the peer that said this hello lacks, of what is saved here. A hello that is none is refused (E22)."""
+        """What the peer that said this hello lacks, of what is saved here. A line that isn't a hello is refused (E22)."""
         try:
             text = hello.decode()
         except UnicodeDecodeError as fault:
@@ -224,12 +224,12 @@ class Document:
         return Answer(lines.encode(), more, beyond)
 
     def receive(self, lines: bytes) -> Receipt:
-        """Takes a whole bundle, as `answer` of a peer gave it, and saves what is applied of it. Bound its length before it is read
-        whole: `answer` gives 4194304 bytes at most, and one too long for a request is a `ValueError`."""
+        """Receives a whole bundle, as `answer` of a peer gave it, and saves what is applied. Bound its length before it is read whole:
+        `answer` gives 4194304 bytes at most, and a bundle too long for a request raises `ValueError`."""
         try:
             text = lines.decode()
         except UnicodeDecodeError as fault:
-            # As of any bad line, what stands before it is taken.
+            # As with any bad line, the lines before it are taken.
             whole = lines[: lines.rfind(b"\n", 0, fault.start) + 1]
             receipt = self.receive(whole)
             return receipt if receipt.stopped else receipt._replace(stopped=BadLine(whole.count(b"\n") + 1, "E22"))
@@ -252,7 +252,7 @@ class Document:
         self._ask("saved", "save")
 
     def status(self) -> Status:
-        """The number, and how many operations there are and are saved."""
+        """The number, how many operations there are, and how many of them are saved."""
         return Status(*self._ask("status", "status")[1:])
 
     def __len__(self) -> int:
@@ -260,7 +260,7 @@ class Document:
         return self.status().length
 
     def __bool__(self) -> bool:
-        """True, also where there is no operation yet."""
+        """True, even if there is no operation yet."""
         return True
 
     def _ask(self, word: str, *request: object) -> List[Any]:
@@ -270,7 +270,7 @@ class Document:
         return self._reply(word, line)
 
     def _reply(self, word: str, line: bytes) -> List[Any]:
-        """The program's next line after this one, which begins with the word, or is raised."""
+        """The program's reply to this line. A reply that doesn't begin with the word is raised as an exception."""
         with self._lock:
             if self._is_closed:
                 raise ValueError("the document is closed")
@@ -288,12 +288,12 @@ class Document:
 
 
 def _line(parts: Sequence[object]) -> bytes:
-    """A line of JSON. A text with half a surrogate pair is no text of a document: a `UnicodeEncodeError`."""
+    """A line of JSON. A text with half a surrogate pair can't be in a document: it raises `UnicodeEncodeError`."""
     return json.dumps(parts, ensure_ascii=False, allow_nan=False, separators=(",", ":")).encode() + b"\n"
 
 
 def _from_one(position: int) -> int:
-    """A position as the protocol counts it: from 1, since 0 is the head of a list, behind which its first item is inserted."""
+    """A position as the protocol counts it: from 1, since 0 is the head of a list, after which its first item is inserted."""
     if isinstance(position, bool) or not isinstance(position, int):
         raise TypeError(f"not a position: {position!r}")
     if position < 0:
@@ -308,7 +308,7 @@ def _expression(*path: Path) -> List[object]:
 
 
 def _check(value: Value) -> None:
-    """Refuses what no document holds, with all that lies within."""
+    """Refuses what no document can hold, in the value and all its parts."""
     if isinstance(value, str):
         value.encode()
     elif isinstance(value, Mapping):
@@ -327,7 +327,7 @@ def _check(value: Value) -> None:
 
 
 def _library() -> Optional[str]:
-    """The path of the library, where the environment names one, or no program, and one was built."""
+    """The path of the library, if the environment names one, or if it names no program and one was built."""
     if library := os.environ.get("JDOC_LIBRARY"):
         return library
     return BUILT if not os.environ.get("JDOC") and os.path.exists(BUILT) else None
@@ -339,5 +339,5 @@ def _knows_number(path: Union[str, os.PathLike[str]]) -> bool:
         with open(path, "rb") as lines:
             return any(it.startswith(b'["own",') and it.endswith(b"\n") for it in lines)
     except OSError:
-        # Where it is there and can't be read, the program says why.
+        # If it exists but can't be read, the program says why.
         return False

@@ -1,7 +1,7 @@
 """What can go wrong: every exception of this package is a `JdocError`."""
 from __future__ import annotations
 
-# Each refusal of the engine: its name, and when it comes, in the words of docs/RULES.md, 'Refusals', which also says what to do then.
+# Each refusal of the engine: its name, and when it occurs, in the words of docs/RULES.md, 'Refusals', which also says what to do then.
 REFUSALS = {
     "E1": ("NoMemory", "an allocation failed"),
     "E2": ("AtHead", "a step from a head; a question, or a command's assign or delete, at a head"),
@@ -37,11 +37,11 @@ REFUSALS = {
 
 
 class JdocError(Exception):
-    """What all exceptions of this package have in common."""
+    """The base of all exceptions of this package."""
 
 
 class Refused(JdocError):
-    """The engine refused a request, and nothing has changed. `code` is the refusal's number, as `"E3"`."""
+    """The engine refused a request, and nothing has changed. `code` is the refusal's number, such as `"E3"`."""
 
     def __init__(self, code: str) -> None:
         super().__init__(code)
@@ -53,7 +53,7 @@ class Refused(JdocError):
 
 
 class Unsaved(JdocError):
-    """What was asked for stands in the document, but only `saved` of its `length` operations are in the file. Don't write it again:
+    """What was asked for is in the document, but only `saved` of its `length` operations are in the file. Don't write it again:
     `save`, or the next write, saves it too."""
 
     def __init__(self, length: int, saved: int) -> None:
@@ -65,10 +65,10 @@ class Unsaved(JdocError):
 
 
 class Lost(JdocError):
-    """A sync of the file failed, so nobody knows what is in it, and the program ends. Open the document again: what was called saved is
+    """A sync of the file failed, so it isn't known what is in it, and the program ends. Open the document again: what was called saved is
     there."""
 
 
 class Died(JdocError):
     """The program, or the document in the library, couldn't be started, or it ended; the message says why, with what the program said on
-    standard error. Nobody knows whether a request that was under way was done. What was called saved before is saved."""
+    standard error. It isn't known whether a request that was under way was done. What was called saved before is saved."""

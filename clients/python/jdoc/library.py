@@ -1,4 +1,4 @@
-"""The library for C in this process: a line to it, a line back, and a file for the lines that it gives to be stored."""
+"""The library for C in this process: one line to it, one line back, and a file for the lines that it gives to store."""
 from __future__ import annotations
 
 import ctypes
@@ -10,13 +10,13 @@ from typing import Any, Optional
 
 from .errors import Died
 
-# The numbers of `jdoc.h` that are asked for here, and why a document isn't opened.
+# The numbers of `jdoc.h` that are used here, and why a document isn't opened.
 TOO_SHORT = 2
 WHY_NOT = {1: "memory was short", 5: "the number is another than the file's", 6: "a line of the file doesn't fit"}
 
 
 class Handle(ctypes.Structure):
-    """As `jdoc_handle`."""
+    """The same as `jdoc_handle`."""
 
     _fields_ = [("held", ctypes.c_void_p), ("is_open", ctypes.c_bool)]
 
@@ -67,7 +67,7 @@ class Library:
         self._saved = self._status()[2]
 
     def ask(self, line: bytes) -> bytes:
-        """The reply to a line; to none, what the program says first. What a reply calls made, received or saved is in the file."""
+        """The reply to a line; without one, what the program says first. What a reply calls made, received or saved is in the file."""
         if self._end is not None:
             raise Died(self._end)
         if not line:
@@ -92,7 +92,7 @@ class Library:
         return reply
 
     def _copied(self, copy: Any) -> Optional[bytes]:
-        """All that the function copies, or None where memory is short."""
+        """Everything that the function copies, or None if an allocation failed."""
         length = ctypes.c_size_t()
         for _ in range(2):
             room = ctypes.c_size_t(len(self._room))
@@ -103,11 +103,11 @@ class Library:
         return None if status else self._room.raw[: length.value]
 
     def _status(self) -> Any:
-        """The number, how many operations there are, and how many are saved if all are."""
+        """The number, and how many operations there are, twice: the library counts them all as saved."""
         return json.loads(self._call(b'["status"]'))[1:]
 
     def _store(self) -> bytes:
-        """Puts what isn't stored into the file. Returns what is said where that fails, and else nothing."""
+        """Appends what isn't stored to the file. Returns the response if that fails, else no bytes."""
         if self._file is None:
             return b""
         lines = self._copied(self._calls.jdoc_lines)

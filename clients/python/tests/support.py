@@ -19,7 +19,7 @@ os.environ.setdefault("JDOC", str(TOP / "jdoc"))
 
 
 class Case(unittest.TestCase):
-    """A test with a folder, whose documents are closed at its end."""
+    """A test with a folder. Its documents are closed at its end."""
 
     def setUp(self) -> None:
         folder = tempfile.TemporaryDirectory()
@@ -78,7 +78,7 @@ def exchange(document: Document, link: socket.socket) -> None:
 
 
 def meet(one: Document, other: Document) -> None:
-    """Lets two documents exchange over a socket on the loopback, each in a thread."""
+    """Makes two documents exchange over a loopback socket, each in a thread."""
     with socket.create_server(("127.0.0.1", 0)) as server, ThreadPoolExecutor() as pool:
         with socket.create_connection(server.getsockname()) as near, server.accept()[0] as far:
             near.settimeout(30)

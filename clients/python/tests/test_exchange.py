@@ -1,4 +1,4 @@
-"""Documents that edit apart, and meet."""
+"""Documents that edit concurrently, and meet."""
 from __future__ import annotations
 
 import unittest
@@ -55,7 +55,7 @@ class Meetings(Case):
             elif what == "clear" and value % 8 == 0:
                 document.delete("m")
             else:
-                # In one direction alone, and at times a part of what is lacked: the first lines of a bundle are a bundle.
+                # In one direction alone, and sometimes only a part of what is missing: the first lines of a bundle are a bundle.
                 lines = document.answer(other.hello()).lines.splitlines(keepends=True)
                 other.receive(b"".join(lines[: random.randint(0, len(lines))]))
         for it in (0, 1, 2, 0, 1):

@@ -1,4 +1,4 @@
-"""The library in place of the program: what it leaves in the file. There is nothing to test where the environment names none."""
+"""The library in place of the program: what it leaves in the file. There is nothing to test if the environment names no library."""
 from __future__ import annotations
 
 import os
@@ -19,7 +19,7 @@ def load_tests(loader: unittest.TestLoader, tests: unittest.TestSuite, pattern: 
 
 class Stores(Case):
     def limit(self, length: int) -> None:
-        """Lets no file of this process grow beyond this length."""
+        """Keeps every file of this process from growing beyond this length."""
         most = resource.getrlimit(resource.RLIMIT_FSIZE)
         before = signal.signal(signal.SIGXFSZ, signal.SIG_IGN)
         self.addCleanup(signal.signal, signal.SIGXFSZ, before)

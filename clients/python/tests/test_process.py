@@ -131,7 +131,7 @@ class Ends(Case):
         with self.assertRaises(KeyboardInterrupt):
             document.get()
         timer.join()
-        # Where it wasn't ended, it goes on.
+        # If it wasn't ended, it goes on.
         with suppress(ProcessLookupError):
             os.kill(process.pid, signal.SIGCONT)
         with self.assertRaisesRegex(Died, "interrupted"):
@@ -149,7 +149,7 @@ class Ends(Case):
 
     def test_what_finds_no_room_in_the_file_is_not_saved(self) -> None:
         path = self.folder / "full"
-        # The file may have 2048 bytes, or as many kilobytes at most: it depends on the shell.
+        # The file may have at most 2048 bytes or 2048 kilobytes, depending on the shell.
         limited = ["sh", "-c", 'trap "" XFSZ; ulimit -f 4; exec "$0" "$@"', os.environ["JDOC"]]
         document, other, saved = self.open(path, number=1, program=limited), self.open(number=2), 0
         with self.assertRaises(Unsaved) as unsaved:

@@ -21,7 +21,7 @@ REFUSED_OPERATIONS = [
     ("E18", '["op",[3,7],[[8,2],[9,1]],[["m",0],["l","l"]],[2,8],["a",1]]'),
     ("E20", '["op",[1,1],[],[["m",0]],"a",["d"]]'),
 ]
-# Lines that no receipt goes past.
+# Lines at which every receipt stops.
 BAD_LINES = [
     ("E5", '["op",[1,7],[],[["m",0]' + ',["m","k"]' * 32 + '],"k",["d"]]'),
     ("E6", f'["op",[1,7],[],[["m",0]],"{"k" * 257}",["d"]]'),

@@ -1,7 +1,7 @@
 """The repository's own scripts and sessions, with a document for each of their engines.
 
-A document has no queue: what a script pushes waits here for the step that handles it. What a client can't say isn't played, and a reply
-that it isn't told isn't compared: those are `None`.
+A document has no queue: what a script pushes waits here for the step that handles it. What a client can't say isn't played, and replies
+that it doesn't get aren't compared: those are `None`.
 """
 from __future__ import annotations
 
@@ -42,7 +42,7 @@ class Engine:
         self.replies: dict[tuple[int, int], Any] = {}
 
     def submit(self, client: int, count: int, call: Callable[[], list[Any]]) -> int:
-        """Lets the call wait, which stands for so many submissions, and returns the serial of the first one."""
+        """Makes the call wait, which stands for this many submissions, and returns the serial of the first one."""
         first = self.serials.get(client, 0) + 1
         self.serials[client] = first + count - 1
 
@@ -77,7 +77,7 @@ class Engine:
         return [["made", [*made], length]]
 
     def receive(self, lines: str) -> list[Any]:
-        """A receipt tells of no line by itself but the first that was refused."""
+        """A receipt reports no single line except the first that was refused."""
         receipt = self.document.receive(lines.encode())
         replies: list[Any] = [None] * lines.count("\n")
         if receipt.first_refused:
@@ -136,7 +136,7 @@ class World:
 
 
 def is_told(expected: Any, reply: Any) -> bool:
-    """Whether the reply is as expected, as far as a client is told."""
+    """Whether the reply is as expected, as far as a client gets to see it."""
     if expected[0] == "refused" and reply[0] == "refused":
         return bool(expected[: len(reply)] == reply)
     return bool(expected == reply)

@@ -1,4 +1,4 @@
-//! Two devices that write apart and exchange, and a reader in a thread.
+//! Two devices that write concurrently and exchange, and a reader in a thread.
 
 use jdoc::{Document, Error, Questions};
 use std::thread;

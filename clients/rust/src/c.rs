@@ -1,8 +1,8 @@
-//! The library's functions, and a handle of it that closes itself.
+//! The library's functions, and a handle that closes itself.
 
 use crate::Error;
 
-/// As `jdoc_handle` of `jdoc.h`.
+/// The same as `jdoc_handle` of `jdoc.h`.
 #[repr(C)]
 struct Parts {
     held: *mut u8,
@@ -30,21 +30,21 @@ unsafe extern "C" {
 
 const TOO_SHORT: u32 = 2;
 
-/// A function that copies bytes into room for them.
+/// A function that copies bytes into a buffer.
 type Copies = unsafe extern "C" fn(*mut Parts, *mut u8, usize, *mut usize) -> u32;
 
-/// An open handle. It is closed when it goes.
+/// An open handle. It is closed when it is dropped.
 pub struct Handle {
     parts: Parts,
 }
 
-// SAFETY: what a handle holds is reached through it alone, each call takes `&mut`, and the library says that a handle may go to another
-// thread. What a document and its readers share is the library's to keep apart.
+// SAFETY: what a handle holds is reached only through it, each call takes `&mut`, and the library says that a handle may go to another
+// thread. Keeping apart what a document and its readers share is up to the library.
 unsafe impl Send for Handle {}
 
 impl Drop for Handle {
     fn drop(&mut self) {
-        // SAFETY: the handle was written by the library alone.
+        // SAFETY: only the library has written to the handle.
         unsafe { jdoc_close(&mut self.parts) }
     }
 }
@@ -56,7 +56,7 @@ fn closed() -> Parts {
     }
 }
 
-/// What the number of a status says.
+/// What the number of a status means.
 fn checked(status: u32) -> Result<(), Error> {
     match status {
         0 => Ok(()),
@@ -86,7 +86,7 @@ impl Handle {
 
     pub fn reader(&mut self, room: usize) -> Result<Handle, Error> {
         let mut parts = closed();
-        // SAFETY: this handle is open, and the other one closed.
+        // SAFETY: this handle is open, and the other one is closed.
         checked(unsafe { jdoc_reader(&mut self.parts, &mut parts, room) })?;
         Ok(Handle { parts })
     }
@@ -131,7 +131,7 @@ impl Handle {
         Ok(length)
     }
 
-    /// All that this function copies.
+    /// Everything that this function copies.
     fn copied(&mut self, copy: Copies) -> Result<Vec<u8>, Error> {
         let mut bytes = vec![0; 256];
         let mut length = 0;

@@ -1,7 +1,7 @@
 //! An embedded, local-first JSON document engine, as a safe crate over its library for C.
 //!
-//! A [`Document`] is written and asked, and a [`Reader`] follows it on another thread, without a lock. Values, paths and answers are JSON,
-//! as `jdoc serve` takes and gives them: strings go in and out, and whoever wants values brings a crate for JSON.
+//! A [`Document`] is written and asked, and a [`Reader`] follows it on another thread, without locks. Values, paths and answers are JSON,
+//! as `jdoc serve` takes and gives them: they are passed as strings, and whoever wants values adds a crate for JSON.
 //!
 //! ```
 //! use jdoc::{Document, Id, Questions};
@@ -27,15 +27,15 @@ use std::fmt;
 /// Why a call failed.
 #[derive(Debug, Clone, Copy, PartialEq, Eq)]
 pub enum Error {
-    /// Memory was short. What a request writes or takes in may stand all the same: `status` tells.
+    /// An allocation failed. What a request writes or receives may be in the document all the same: ask `status`.
     NoMemory,
     /// The engine refused it, with this code, and nothing has changed: 3 is E3 in docs/RULES.md, 'Refusals'.
     Refused(u8),
-    /// The number is 0 and the journal has no entry of its own, or it isn't the journal's.
+    /// The number is 0 and the journal has no entry of its own, or it differs from the journal's.
     BadNumber,
     /// A line of the journal, or an operation that came to a reader, doesn't fit.
     Unfit,
-    /// The reply is of another form than is due, which is a fault here.
+    /// The reply isn't of the form that was expected, which is a fault of this crate.
     BadReply,
 }
 
@@ -53,7 +53,7 @@ impl fmt::Display for Error {
 
 impl std::error::Error for Error {}
 
-/// One document that is written. It may go to another thread; threads that share one put a `Mutex` round it.
+/// One document that is written. It may go to another thread; threads that share one put it into a `Mutex`.
 ///
 /// ```compile_fail
 /// fn shared<T: Sync>(_: T) {}
@@ -66,11 +66,11 @@ pub struct Document {
 /// What a peer lacked.
 #[derive(Debug, Clone, PartialEq, Eq)]
 pub struct Bundle {
-    /// The lines for the peer, as they stand in the reply: a JSON string. `Document::receive` takes it.
+    /// The lines for the peer, as they are in the reply: a JSON string. `Document::receive` takes it.
     pub text: String,
-    /// Whether the peer lacks more, and says hello again once it has received these.
+    /// Whether the peer lacks more; it says hello again once it has received these.
     pub has_more: bool,
-    /// Whether the peer knows operations of this device that don't stand here: write no more under its number then.
+    /// Whether the peer knows operations of this device that aren't here: write no more under its number then.
     pub is_beyond: bool,
 }
 
@@ -80,31 +80,31 @@ impl Document {
         Document::open(number, b"").map(|(document, _)| document)
     }
 
-    /// A document that goes on from the lines of its journal, and how many bytes of it were taken: what is behind them was being written
-    /// when the power went, and has to be cut off. The number may be 0 where the journal has an entry of its own.
+    /// A document that resumes from the lines of its journal, and how many bytes of it were taken: what is after them was being written
+    /// when the power went, and has to be cut off. The number may be 0 if the journal has an entry of its own.
     pub fn open(number: u32, journal: &[u8]) -> Result<(Document, usize), Error> {
         let (handle, taken) = c::Handle::open(number, journal)?;
         Ok((Document { handle }, taken))
     }
 
     /// The reply to a request, both without their line feeds. What it says was made, received or saved is in [`lines`](Self::lines): store
-    /// these before the reply is used.
+    /// those before the reply is used.
     pub fn request(&mut self, line: &str) -> Result<String, Error> {
         self.handle.call(line)
     }
 
-    /// Writes a value over all that stands at the element: a number, a text, `true`, `false`, `null`, or `[]` or `{}`, into which parts go by
-    /// calls of their own.
+    /// Writes a value over everything at the element: a number, a text, `true`, `false`, `null`, or `[]` or `{}`, which is then filled by
+    /// calls of its own.
     pub fn set(&mut self, expression: &str, value: &str) -> Result<Id, Error> {
         id_of(&self.request(&format!(r#"["assign",{expression},{value}]"#))?)
     }
 
-    /// Inserts an item right behind the one that the expression leads to, or at the head of the list where its last step is 0.
+    /// Inserts an item right after the one to which the expression leads, or at the head of the list if its last step is 0.
     pub fn insert_after(&mut self, expression: &str, value: &str) -> Result<Id, Error> {
         id_of(&self.request(&format!(r#"["insert",{expression},{value}]"#))?)
     }
 
-    /// Inserts an item behind the last one of the list that the expression leads to, or as its first one.
+    /// Inserts an item after the last one of the list to which the expression leads, or as its first one.
     pub fn append(&mut self, expression: &str, value: &str) -> Result<Id, Error> {
         let items = self.items(expression)?;
         let last = match items.rfind('[') {
@@ -114,12 +114,12 @@ impl Document {
         self.insert_after(&stepped(expression, last), value)
     }
 
-    /// Deletes what stands at the element. What others write there at the same time stays.
+    /// Deletes what is at the element. What others write there concurrently stays.
     pub fn delete(&mut self, expression: &str) -> Result<Id, Error> {
         id_of(&self.request(&format!(r#"["delete",{expression}]"#))?)
     }
 
-    /// The number, and how many operations there are and count as saved.
+    /// The number, how many operations there are, and how many of them count as saved.
     pub fn status(&mut self) -> Result<Status, Error> {
         status_of(&self.request(r#"["status"]"#)?)
     }
@@ -129,12 +129,12 @@ impl Document {
         self.handle.lines()
     }
 
-    /// Says that the lines are stored that `lines` gave last.
+    /// Calls the lines that `lines` gave last stored.
     pub fn stored(&mut self) -> Result<(), Error> {
         self.handle.lines_stored()
     }
 
-    /// A reader for another thread, with room for so many operations on their way to it, at least one.
+    /// A reader for another thread, with room for `room` operations on their way to it, at least one.
     pub fn reader(&mut self, room: usize) -> Result<Reader, Error> {
         Ok(Reader {
             handle: self.handle.reader(room)?,
@@ -146,14 +146,14 @@ impl Document {
         self.handle.feed()
     }
 
-    /// The line by which a peer is told what is known here.
+    /// The line that tells a peer what is known here.
     pub fn hello(&mut self) -> Result<String, Error> {
         let reply = self.request(r#"["hello"]"#)?;
         rest_of(&reply, "hello")?;
         Ok(reply)
     }
 
-    /// What the peer lacks whose hello this is.
+    /// What the peer with this hello lacks.
     pub fn answer(&mut self, hello: &str) -> Result<Bundle, Error> {
         let reply = self.request(&format!(r#"["answer",{}]"#, quoted(hello)))?;
         rest_of(&reply, "bundle")?;
@@ -165,14 +165,14 @@ impl Document {
         })
     }
 
-    /// Takes in what a peer answered. Returns the reply, `["received",TAKEN,REFUSED,STOP]`.
+    /// Receives what a peer answered. Returns the reply, `["received",TAKEN,REFUSED,STOP]`.
     pub fn receive(&mut self, bundle: &Bundle) -> Result<String, Error> {
         let reply = self.request(&format!(r#"["receive",{}]"#, bundle.text))?;
         rest_of(&reply, "received")?;
         Ok(reply)
     }
 
-    /// Exchanges with another document of this program, both ways, until neither has more. A reply that tells of refused or bad lines is an
+    /// Exchanges with another document of this program, both ways, until neither has more. A reply that reports refused or bad lines is an
     /// error, `BadReply`: documents of this program send none.
     pub fn sync(&mut self, other: &mut Document) -> Result<(), Error> {
         take_all(self, other)?;
@@ -180,7 +180,7 @@ impl Document {
     }
 }
 
-/// Takes in all that the other document has.
+/// Receives everything that the other document has.
 fn take_all(document: &mut Document, other: &mut Document) -> Result<(), Error> {
     loop {
         let bundle = other.answer(&document.hello()?)?;
@@ -210,7 +210,7 @@ pub struct Reader {
 }
 
 impl Reader {
-    /// Takes in what has come. Returns how many operations were taken in since the beginning.
+    /// Takes in what has come. Returns how many operations it has taken in since it was opened.
     pub fn follow(&mut self) -> Result<usize, Error> {
         self.handle.follow()
     }

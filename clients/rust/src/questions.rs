@@ -1,9 +1,9 @@
-//! What a document and its readers are asked alike.
+//! The questions that both a document and its readers answer.
 
 use crate::Error;
 use crate::replies::answer_of;
 
-/// Questions, which a document answers and, from what it has taken in, a reader.
+/// Questions, which a document answers, and a reader too, from what it has taken in.
 ///
 /// An expression is a list of steps as JSON: `[]` is the root, `["list",1]` the first item of the list at `list`, and `["list",[3,1]]` the
 /// one with that id. Answers are JSON too.
@@ -11,7 +11,7 @@ pub trait Questions {
     /// The reply to a question or a glance, without its line feed.
     fn ask(&mut self, line: &str) -> Result<String, Error>;
 
-    /// What stands at the element, as JSON for people: down to so many elements beneath it, and so many in all.
+    /// What is at the element, as human-readable JSON: to a depth of `depth` below it, and at most `elements` elements in all.
     fn glance(&mut self, expression: &str, depth: u64, elements: u64) -> Result<String, Error> {
         let reply = self.ask(&format!(r#"["glance",{expression},{depth},{elements}]"#))?;
         answer_of(&reply, "glance")
@@ -22,22 +22,22 @@ pub trait Questions {
         self.glance(expression, 32, 100_000)
     }
 
-    /// The whole document, as JSON for people.
+    /// The whole document, as human-readable JSON.
     fn to_json(&mut self) -> Result<String, Error> {
         self.get("[]")
     }
 
-    /// The values of the register, each behind the id of its write, `[[ID,VALUE],..]`. More than one are a conflict.
+    /// The values of the register, each after the id of its write, `[[ID,VALUE],..]`. More than one is a conflict.
     fn values(&mut self, expression: &str) -> Result<String, Error> {
         reading(self, "values", expression)
     }
 
-    /// The keys of the map, rising by their bytes.
+    /// The keys of the map, in ascending byte order.
     fn keys(&mut self, expression: &str) -> Result<String, Error> {
         reading(self, "keys", expression)
     }
 
-    /// The ids of the items of the list, in its order.
+    /// The ids of the items of the list, in list order.
     fn items(&mut self, expression: &str) -> Result<String, Error> {
         reading(self, "items", expression)
     }

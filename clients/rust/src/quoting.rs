@@ -16,7 +16,7 @@ pub fn quoted(line: &str) -> String {
     text
 }
 
-/// The string within the reply `["bundle",TEXT,MORE,BEYOND]`, as it stands there.
+/// The string within the reply `["bundle",TEXT,MORE,BEYOND]`, as it is written there.
 pub fn bundle_text(reply: &str) -> Option<&str> {
     let rest = reply.strip_prefix(r#"["bundle","#)?;
     let mut is_escaped = false;

@@ -18,7 +18,7 @@ pub struct Status {
     pub saved: u64,
 }
 
-/// What stands in a reply `["WORD",REST]` behind its word.
+/// What comes after the word in a reply `["WORD",REST]`.
 pub fn rest_of<'a>(reply: &'a str, word: &str) -> Result<&'a str, Error> {
     let parts = reply
         .strip_prefix(r#"[""#)
@@ -28,7 +28,7 @@ pub fn rest_of<'a>(reply: &'a str, word: &str) -> Result<&'a str, Error> {
     if let Some(rest) = behind(word) {
         return Ok(rest);
     }
-    // Nothing else than memory keeps a document in memory from saving.
+    // Only a failed allocation keeps a document in memory from saving.
     if behind("unsaved").is_some() {
         return Err(Error::NoMemory);
     }
@@ -44,7 +44,7 @@ pub fn rest_of<'a>(reply: &'a str, word: &str) -> Result<&'a str, Error> {
     }
 }
 
-/// What stands behind the word and the length, `["WORD",LENGTH,ANSWER]`.
+/// What comes after the word and the length in `["WORD",LENGTH,ANSWER]`.
 pub fn answer_of(reply: &str, word: &str) -> Result<String, Error> {
     let (_length, answer) = rest_of(reply, word)?
         .split_once(',')

@@ -1,4 +1,4 @@
-//! A journal that the program keeps, and a reader beside its document.
+//! A journal that the program keeps, and a reader next to its document.
 
 use jdoc::{Document, Error, Id, Questions, Status};
 
@@ -10,7 +10,7 @@ fn a_document_goes_on_from_its_lines() -> Result<(), Error> {
     document.stored()?;
     assert_eq!(document.lines()?, b"");
     document.set(r#"["b"]"#, "2")?;
-    // Given and not called stored, they are given again.
+    // Lines that were given but not called stored are given again.
     assert_eq!(document.lines()?, document.lines()?);
     journal.extend(document.lines()?);
     let whole = journal.len();

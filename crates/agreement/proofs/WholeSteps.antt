@@ -21,11 +21,11 @@ granted_runs w v (h ∷ hs) g = (g.0, inl g.1, granted_runs g.0 v hs g.2)
 abbrev taking : Engine → List Submitted → Replica → List Handled → Engine
 taking E queue r handled = record E { queue = queue; replica = r; handled = handled; due = [] }
 
--- the item with the reply that the rules give
+-- the submission with the reply that the rules give
 abbrev as_rules : Handler → Handled → Handled
 as_rules w h = record { submitted = h.submitted; reply = reply_to w.replica h.submitted }
 
--- one take, where a batch has room
+-- one take, if the batch has room
 one_take : (E : Engine) (h : Handled) (queue : List Submitted) (w u : Handler) (done : List Handled) → length done < E.batch
     → IsWhole w h.submitted h.reply u
     → (take_submission (taking E (h.submitted ∷ queue) w.replica done)).engine ≡ taking E queue u.replica (done ++ h ∷ [])
@@ -34,7 +34,7 @@ one_take E h queue w u done l whole =
     (ap (λ r. taking E queue r (done ++ as_rules w h ∷ [])) (sym whole.replica)
     ∙ ap (λ y. taking E queue u.replica (done ++ (record { submitted = h.submitted; reply = y }) ∷ [])) (sym whole.reply))
 
--- as many takes as there are items in the run
+-- as many takes as there are submissions in the run
 take_run : (E : Engine) (hs : List Handled) (rest : List Submitted) (w v : Handler) (done : List Handled)
     → length done + length hs ≤ E.batch → AreGranted w hs v
     → take_for (length hs) (taking E (items_of hs ++ rest) w.replica done) ≡ taking E rest v.replica (done ++ hs)
@@ -54,7 +54,7 @@ take_for-sum zero b e = let none : 0 + b ≡ b = omega arith in ap (λ n. take_f
 take_for-sum (suc a) b e =
     let one : suc a + b ≡ suc (a + b) = omega arith in ap (λ n. take_for n e) one ∙ take_for-sum a b (take_submission e).engine
 
--- nothing is taken where nothing is left, or a batch is full
+-- nothing is taken if nothing is left, or if the batch is full
 no_take : (E : Engine) (rest : List Submitted) (r : Replica) (hs : List Handled) → (length hs < E.batch → rest ≡ [])
     → (take_submission (taking E rest r hs)).engine ≡ taking E rest r hs
 no_take E [] r hs all = refl
@@ -64,7 +64,7 @@ no_take E (x ∷ rest) r hs all = by_room (nat_le E.batch (length hs)) refl
     by_room true e = rw e refl
     by_room false e = let none : x ∷ rest ≡ [] = all (leb-false E.batch (length hs) e) in absurd (cc)
 
--- all that a whole step takes
+-- everything that a whole step takes
 take_all : (E : Engine) (hs : List Handled) (rest : List Submitted) (w v : Handler) → length hs ≤ E.batch
     → (length hs < E.batch → rest ≡ []) → AreGranted w hs v
     → take_for E.batch (taking E (items_of hs ++ rest) w.replica []) ≡ taking E rest v.replica hs
@@ -75,13 +75,13 @@ take_all E hs rest w v fits all g =
     ∙ ap (take_for (E.batch - length hs)) (take_run E hs rest w v [] (omega (arith, fits)) g)
     ∙ take_for-idle (E.batch - length hs) (taking E rest v.replica hs) (no_take E rest v.replica hs all)
 
--- what is published then
+-- what is then published
 shown : (E : Engine) (hs : List Handled) (rest : List Submitted) (r : Replica) → 0 < length hs
     → (publish (taking E rest r hs)).engine ≡ record (taking E rest r []) { published = length r.entries; due = hs }
 shown E [] rest r l = absurd (omega (arith, l))
 shown E (h ∷ hs) rest r l = refl
 
--- answers alone were set, and these are still due
+-- only answers were set, and these are still due
 pub record HasGiven (e f : Engine) (left : List Handled) : Type 0 where
   pub replica : f.replica ≡ e.replica
   pub published : f.published ≡ e.published
@@ -111,7 +111,7 @@ some_answered : (hs : List Handled) → 0 < length hs → answered_or_idle (leng
 some_answered [] l = absurd (omega (arith, l))
 some_answered (h ∷ hs) l = refl
 
--- the engine that awaits these items
+-- the engine that awaits these submissions
 awaiting : (E : Engine) (w : Handler) (hs : List Handled) (rest : List Submitted) → Awaits E w hs rest
     → E ≡ taking E (items_of hs ++ rest) w.replica []
 awaiting E w hs rest a =

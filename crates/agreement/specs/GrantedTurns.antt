@@ -11,7 +11,7 @@ abbrev pub AreGranted : Handler → List Handled → Handler → Type 0
 AreGranted w [] v = v ≡ w
 AreGranted w (h ∷ hs) v = (u : Handler) × IsWhole w h.submitted h.reply u × AreGranted u hs v
 
--- between its steps the world's engine has the replica of the writer, and these submissions are the batch that is next
+-- between its steps, the world's engine has the replica of the writer, and these submissions are the next batch
 pub record Awaits (E : Engine) (w : Handler) (hs : List Handled) (rest : List Submitted) : Type 0 where
   pub handled : E.handled ≡ []
   pub due : E.due ≡ []
@@ -21,7 +21,7 @@ pub record Awaits (E : Engine) (w : Handler) (hs : List Handled) (rest : List Su
   pub batch : length hs ≤ E.batch
   pub all : length hs < E.batch → rest ≡ []
 
--- the world's whole step leaves what the writer's step leaves, replies with its number, and what it gives are these replies
+-- the world's whole step leaves what the writer's step leaves, replies with its number of submissions, and gives these replies
 pub record StepsAlike (E : Engine) (hs : List Handled) (rest : List Submitted) (v : Handler) : Type 0 where
   pub replica : (whole_step E).engine.replica ≡ v.replica
   pub published : (whole_step E).engine.published ≡ length v.replica.entries

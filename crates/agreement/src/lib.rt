@@ -1,5 +1,4 @@
-//! The engine of a world and the engine of threads do the same: a law, and tests that play the same on both and compare all their
-//! answers.
+//! The engine of a world and the engine of threads do the same: a law, and tests that play the same on both and compare all their answers.
 #![tactic(auto)]
 
 mod law;

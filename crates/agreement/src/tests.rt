@@ -12,7 +12,7 @@ use both::play;
 use dice::Dice;
 use std::test::Fail;
 
-/// How many plays, and how many acts each has.
+/// The number of plays, and the number of acts of each.
 const PLAYS: u64 = 40;
 
 const ACTS: u32 = 120;

@@ -1,4 +1,4 @@
--- Views, and what tests of them tell.
+-- Views, and what tests of them imply.
 use Rattle.std.proofs.Common.{◌≡◌, ℕ, Bool, ◌&&◌, List, [], ◌∷◌, map, nat_eq, slice_get, Some, None, true, refl, sym, ap, ap₂, ◌∙◌, arith}
 use Rattle.std.proofs.Common.{Vec, Global}
 use Rattle.std.specs.Bool.{Decides}
@@ -17,7 +17,7 @@ use Rattle.peer_sync.specs.value.Values.{scalar_of}
 use Rattle.bench.specs.declared.showing.Shown.{Shown}
 use Rattle.bench.specs.Showing.{ShowAlike, View, is_same_view, is_same_written, view_of}
 
--- a test of three parts decides whether all of them hold, where they hold just where P does
+-- a test of three parts decides whether all of them hold, if they hold exactly when P does
 joined : {A B P : Type 0} (x y : Bool) → Decides x A → Decides y B → (A × B → P) → (P → A × B) → Decides (x && y) P
 joined x y a b to from = let both = Decides-and x y a b in (λ t. to (both.0 t), λ p. both.1 (from p))
 
@@ -48,11 +48,11 @@ all_same : (v : View) (views : List View) → Decides (list_all (λ w. is_same_v
 all_same v views = Decides-by_and (λ w. is_same_view w v) (λ w. w ≡ v) (list_all (λ w. is_same_view w v)) (λ w. view_decides w v) refl
     (λ w ws. refl) views
 
--- all are like this one
+-- all are the same as this one
 abbrev pub are_like : Shown → List Shown → Bool
 are_like first shown = list_all (λ s. is_same_view (view_of s) (view_of first)) shown
 
--- where the first one has n operations, all show alike just where they are like it
+-- if the first one has n operations, all show the same exactly when they are the same as it
 pub alike_by_first : (n : ℕ) (shown : List Shown) (first : Shown) (r : Bool) → slice_get shown 0 ≡ Some first → first.length ≡ n
     → r ≡ are_like first shown → Decides r (ShowAlike n (map view_of shown))
 alike_by_first n [] first r here l e = absurd (cc)
@@ -76,7 +76,7 @@ alike_by_first n (s ∷ ss) first r here l e = (to, from)
         let first_is : view_of first ≡ h.0 = ap view_of (sym same) ∙ here in
         tested ∙ (all_same (view_of first) views).1 (λ k d lt. h.2 k d lt ∙ sym first_is)
 
--- where there is none, all show alike
+-- if there is none, all show the same
 pub none_differs : (n : ℕ) (shown : List Shown) → slice_get shown 0 ≡ None → ShowAlike n (map view_of shown)
 none_differs n [] gone = (record { length = n; keys = []; values = [] }, refl, λ k d lt. absurd (omega (arith, lt)))
 none_differs n (s ∷ ss) gone = absurd (cc)
@@ -85,7 +85,7 @@ none_differs n (s ∷ ss) gone = absurd (cc)
 abbrev pub written : OpId × Given → OpId × Scalar
 written p = (p.0, scalar_of p.1)
 
--- where lengths and keys are the same, views are the same just where the values are
+-- if lengths and keys are the same, views are the same exactly when the values are
 pub same_by_values : (E : OpId × Given → OpId × Given → Bool) → ((p q : OpId × Given) → E p q ≡ is_same_written (written p) (written q))
     → (s t : Shown) (r : Bool)
     → s.length ≡ t.length → pointwise (pointwise nat_eq) s.keys.items t.keys.items ≡ true

@@ -8,7 +8,7 @@ use Rattle.peer_sync.specs.value.SameValues.{is_same_scalar}
 use Rattle.peer_sync.specs.value.Values.{scalar_of}
 use Rattle.bench.specs.declared.showing.Shown.{Shown}
 
--- how many operations a history has, the keys of its document, and at each of them the values with the ids of what wrote them
+-- how many operations a history has, the keys of its document, and at each key the values with the ids of the operations that wrote them
 pub record View : Type 0 where
   pub length : ℕ
   pub keys : List (List ℕ)
@@ -27,6 +27,6 @@ abbrev pub is_same_view : View → View → Bool
 is_same_view v w = nat_eq v.length w.length && pointwise (pointwise nat_eq) v.keys w.keys
     && pointwise (pointwise is_same_written) v.values w.values
 
--- there is one view, of a history with n operations, that all of them are
+-- all of them are one view, of a history with n operations
 abbrev pub ShowAlike : ℕ → List View → Type 0
 ShowAlike n views = (v : View) × (v.length ≡ n) × All (λ w. w ≡ v) views

@@ -10,7 +10,7 @@ use Rattle.semantics.specs.LegalAnswer.{Request, OfCommand, OfDocument, Answered
 use Rattle.peer_sync.specs.operation.Submissions.{request_of}
 use Rattle.peer_sync.specs.engine.Clients.{Client, submissions_by}
 
--- what the client asked of the writer so far, in order
+-- what the client has asked of the writer so far, in order
 abbrev pub requests_by : Client → List Request
 requests_by c = map (λ x. request_of x.request) (submissions_by c)
 
@@ -18,11 +18,11 @@ requests_by c = map (λ x. request_of x.request) (submissions_by c)
 abbrev pub assignment : List ℕ → ℕ → Command
 assignment key n = record { expression = Get key ∷ []; mutation = Assign (Plain (Whole (pos n))) }
 
--- those for the numbers below n, in order
+-- the assignments of the numbers below n, in order
 abbrev pub assignments : List ℕ → ℕ → List Request
 assignments key zero = []
 assignments key (suc n) = assignments key n ++ OfCommand (assignment key n) ∷ []
 
--- a reader of this history finds the number alone at the key
+-- a reader of this history finds this number alone at the key
 abbrev pub Shows : List Entry → List ℕ → ℕ → Type 0
 Shows G key n = (a : OpId) × (reading_of G (OfDocument (Values (Get key ∷ []))) ≡ Answered (ValuesAre ((a, Whole (pos n)) ∷ [])))

@@ -1,4 +1,4 @@
-//! Engines in threads of their own, which play at once and then meet.
+//! Engines in threads of their own, which play at the same time and then meet.
 
 ghost use Rattle.std.specs.Prelude.{◌≡◌, ◌⊎◌, ◌*◌, IfOk};
 ghost use Rattle.ids.specs.Members.{in_order};
@@ -17,14 +17,14 @@ use std::marker::Brand;
 use std::sync::Wait;
 use std::thread::{Threads, join, map_vec};
 
-/// Opens the engines, each in a thread of its own. In each of them each client writes, polls and reads back in its own thread,
-/// while the writer steps in another; then each engine takes from each other one what it lacks, and what all show is compared. With
-/// two or more writers and operations, the first two of an engine write their second number only once they see the other's
-/// first, so they come together only if both run at once.
+/// Opens the engines, each in a thread of its own. In each of them each client writes, polls and reads back in its own thread, while the
+/// writer steps in another; then each engine takes what it lacks from every other one, and what they all show is compared. With two or more
+/// writers and operations, the first two writers of an engine write their second number only once they see each other's first, so they only
+/// finish if both run at the same time.
 ///
 /// # Errors
-/// `TurnLimit` where one waited for too long; `Refused` where a call or a command was refused: `NoMemory`, `NoReaderPlace`,
-/// `NoReading`. That of an engine with a lower number comes first, and of its clients that of one with a lower number.
+/// `TurnLimit` if one waited for too long; `Refused` if a call or a command was refused: `NoMemory`, `NoReaderPlace`, `NoReading`. The
+/// error of an engine with a lower number comes first, and within an engine that of a client with a lower number.
 pub fn play<R: Threads + Wait + Sync>(rt: &R, alloc: Global, plan: Plan) -> Result<Verdict, Stop>
     ensures { IfOk result (λ v. (v ≡ Differ) ⊎ (v ≡ Agree (plan.replicas * (plan.writers * plan.ops)))) }
 {
@@ -68,7 +68,7 @@ fn all_ended(ended: Vec<Result<(), Stop>>) -> Result<(), Stop> {
     Ok(())
 }
 
-/// Opens an engine, plays, and serves the others until all is compared.
+/// Opens an engine, plays, and serves the others until everything is compared.
 fn run_engine<R: Threads + Wait + Sync>(
     rt: &R,
     alloc: Global,
@@ -121,7 +121,7 @@ fn run_in<N: EngineName + Send + Sync, R: Threads + Wait + Sync>(
     ended
 }
 
-/// Lets the clients of an engine write, tells whether they read all back, and serves others. Gives the clients back.
+/// Makes the clients of an engine write, tells whether they read everything back, and serves others. Returns the clients.
 fn play_and_serve<N: EngineName + Send + Sync, R: Threads + Wait + Sync>(
     rt: &R,
     alloc: Global,
@@ -136,12 +136,12 @@ fn play_and_serve<N: EngineName + Send + Sync, R: Threads + Wait + Sync>(
             let ended = play_tasks(rt, alloc, plan, desk, writer, tasks.as_mut_slice(), reader);
             (ended, clients_of(alloc, tasks))
         }
-        // The clients are gone with their tasks.
+        // The clients were dropped with their tasks.
         Err(stop) => (Err(stop), Vec::new(alloc)),
     }
 }
 
-/// Lets clients write, tells whether they read all back, and serves others.
+/// Makes clients write, tells whether they read everything back, and serves others.
 fn play_tasks<N: EngineName + Send + Sync, R: Threads + Wait + Sync>(
     rt: &R,
     alloc: Global,

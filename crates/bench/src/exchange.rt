@@ -1,4 +1,4 @@
-//! What the engines are asked: whether all have played, what each lacks of the others, and what they show.
+//! What the engines are asked: whether all have played, what each lacks from the others, and what they show.
 
 use crate::links::Link;
 use crate::plan::{MOST_TURNS, Stop};
@@ -7,12 +7,12 @@ use std::alloc::{AllocError, Global};
 use std::sync::Wait;
 use std::thread::yield_now;
 
-/// Waits until all engines have played, lets each take what the others wrote, and looks at all. `None` if a value wasn't read back.
-/// The links are dropped at the end, and so the engines' threads end.
+/// Waits until all engines have played, makes each take what the others wrote, and looks at all of them. `None` if a value wasn't read
+/// back. The links are dropped at the end, which ends the engines' threads.
 ///
 /// # Errors
-/// `TurnLimit` if a thread didn't begin, or an exchange brought nothing, for `MOST_TURNS` turns; `NoReading` if an engine's thread has
-/// ended before; `NoMemory` if allocation fails.
+/// `TurnLimit` if a thread didn't start, or an exchange brought nothing, for `MOST_TURNS` turns; `NoReading` if an engine's thread ended
+/// before; `NoMemory` if allocation fails.
 pub fn meet<R: Wait>(rt: &R, alloc: Global, links: Vec<Link>) -> Result<Option<Vec<Shown>>, Stop> {
     let links = links.as_slice();
     if !all_played(rt, links)? {
@@ -33,7 +33,7 @@ fn all_played<R: Wait>(rt: &R, links: &[Link]) -> Result<bool, Stop> {
     Ok(all_read)
 }
 
-/// Waits until all threads run. From then on each of them replies or ends, so that waiting for a reply ends.
+/// Waits until all threads run. From then on each of them replies or ends, so waiting for a reply always ends.
 fn await_starts<R: Wait>(rt: &R, links: &[Link]) -> Result<(), Stop> {
     for link in links {
         await_start(rt, link)?;
@@ -41,7 +41,7 @@ fn await_starts<R: Wait>(rt: &R, links: &[Link]) -> Result<(), Stop> {
     Ok(())
 }
 
-/// Waits until the engine's thread runs. Where no thread can be made, an engine's turn may come only once another has ended.
+/// Waits until the engine's thread runs. If no thread can be started, an engine may have to wait until another has ended.
 fn await_start<R: Wait>(rt: &R, link: &Link) -> Result<(), Stop> {
     for _ in 0..MOST_TURNS {
         if link.told_yet(rt)?.is_some() {
@@ -52,7 +52,7 @@ fn await_start<R: Wait>(rt: &R, link: &Link) -> Result<(), Stop> {
     Err(Stop::TurnLimit)
 }
 
-/// Each engine in turn takes from each other one, in turn, what it lacks.
+/// Each engine in turn takes what it lacks from each of the others, in turn.
 fn exchange<R: Wait>(rt: &R, links: &[Link]) -> Result<(), Stop> {
     for (number, link) in links.iter().enumerate() {
         pull_from_others(rt, links, number, link)?;
@@ -60,7 +60,7 @@ fn exchange<R: Wait>(rt: &R, links: &[Link]) -> Result<(), Stop> {
     Ok(())
 }
 
-/// The engine with this number takes what it lacks of each other one.
+/// The engine with this number takes what it lacks from each of the others.
 fn pull_from_others<R: Wait>(rt: &R, links: &[Link], number: usize, to: &Link) -> Result<(), Stop> {
     for (other, from) in links.iter().enumerate() {
         if other != number {
@@ -97,7 +97,7 @@ enum Turn {
     Idle,
 }
 
-/// The first engine says hello, the second answers, and the first receives that.
+/// The first engine says hello, the second answers, and the first receives the answer.
 fn take_turn<R: Wait>(rt: &R, to: &Link, from: &Link) -> Result<Turn, Stop> {
     let bundle = from.answer(rt, to.hello(rt)?)?;
     if bundle.is_empty() {

@@ -11,8 +11,8 @@ use std::alloc::{AllocError, Global};
 
 /// Says whether a worker may submit its next command.
 pub trait Gate {
-    /// Whether the client may submit the command that assigns this number. The client may have read meanwhile, and has submitted
-    /// and polled nothing.
+    /// Whether the client may submit the command that assigns this number. Meanwhile the client may have read, but has not submitted or
+    /// polled anything.
     ///
     /// # Errors
     /// `NoMemory` if allocation fails; `NoReading` if the engine gave no reading.
@@ -25,7 +25,7 @@ pub trait Gate {
         ensures { client.new ≡ record client.old { seen = client.new.seen; read = client.new.read; reads = client.new.reads } };
 }
 
-/// A gate before number 1: it opens once the client sees a value at the key, if there is one. All other numbers pass.
+/// A gate before number 1: it opens once the client sees a value at the key, if the gate has a key. All other numbers pass.
 #[derive(Drop)]
 pub struct Meeting {
     pub key: Option<Key>,

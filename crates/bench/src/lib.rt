@@ -1,8 +1,8 @@
-//! A bench: threads that write into engines at once, poll each answer, and read each value back; then the engines exchange
+//! A bench: threads that write into engines at the same time, poll each answer, and read each value back; then the engines exchange
 //! operations, and what they show is compared.
 //!
-//! `play` gives each engine a thread, and in it a thread to its writer and to each client. It tells nothing of time: what a
-//! schedule changes is no part of its verdict.
+//! `play` gives each engine a thread, and in it a thread to its writer and to each client. It measures no time: whatever depends on the
+//! schedule isn't part of its verdict.
 #![tactic(auto)]
 
 mod engines;

@@ -33,7 +33,7 @@ pub struct Link {
 #[derive(Drop)]
 pub struct Desk {
     pub requests: Receiver<Request>,
-    /// That the thread runs; whether all was read back; whether what was received brought anything.
+    /// That the thread runs; whether everything was read back; whether what was received brought anything.
     pub told: Sender<bool>,
     pub lines: Sender<Vec<u8>>,
     pub shown: Sender<Shown>,
@@ -63,13 +63,13 @@ pub fn open_link(alloc: Global) -> Result<(Link, Desk), AllocError> {
     Ok((link, desk))
 }
 
-/// An engine's thread has ended, which says itself why.
+/// An engine's thread has ended; it reports the reason itself.
 const GONE: Stop = Stop::Refused(Refusal::NoReading);
 
 /// # Errors
-/// Each call answers `NoReading` if the engine's thread has ended.
+/// Each call returns `NoReading` if the engine's thread has ended.
 impl Link {
-    /// What the engine has told already, if anything.
+    /// What the engine has already told, if anything.
     pub fn told_yet(&self, rt: &impl Wait) -> Result<Option<bool>, Stop> {
         match self.told.try_recv(rt) {
             Ok(told) => Ok(Some(told)),
@@ -89,7 +89,7 @@ impl Link {
         self.lines.recv(rt).map_err(|_| GONE)
     }
 
-    /// What the engine answers to the hello.
+    /// The engine's answer to the hello.
     pub fn answer(&self, rt: &impl Wait, hello: Vec<u8>) -> Result<Vec<u8>, Stop> {
         self.request(rt, Request::Answer(hello))?;
         self.lines.recv(rt).map_err(|_| GONE)

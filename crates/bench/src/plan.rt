@@ -8,7 +8,7 @@ ghost use Rattle.bench.specs.Plans.{is_plan};
 use ids::{MOST_QUEUE, Refusal};
 use std::alloc::AllocError;
 
-/// How many turns a waiting loop may find nothing new, before it gives up.
+/// How many turns a waiting loop may find nothing new before it gives up.
 pub const MOST_TURNS: u32 = 10_000_000;
 
 /// How many engines there are and how many clients of each write, both from 1 to 16; how many commands each client submits, from 1 to
@@ -89,7 +89,7 @@ impl Plan {
 /// The result of a bench.
 #[derive(Clone, Copy, Debug, PartialEq, Eq)]
 pub enum Verdict {
-    /// Each value was read back, and each engine shows the same, in a history of this many operations, which is what was submitted.
+    /// Each value was read back, and all engines show the same, in a history of this many operations, as many as were submitted.
     Agree(u32),
     /// A value wasn't read back, or an engine shows something else or has a history of another length.
     Differ,

@@ -1,4 +1,4 @@
-//! The clients of one engine, which write at once, each in a thread of its own.
+//! The clients of one engine, which write at the same time, each in a thread of its own.
 
 ghost use Rattle.std.specs.Prelude.{◌<◌};
 
@@ -11,7 +11,7 @@ use std::alloc::{AllocError, Global};
 use std::sync::Wait;
 use std::thread::{Threads, for_each_mut, join, yield_now};
 
-/// What a client has to do, and how it ended.
+/// The work of a client, and how it ended.
 #[derive(Drop)]
 pub struct Task<N: EngineName> {
     pub client: Client<N>,
@@ -53,7 +53,7 @@ pub fn tasks<N: EngineName>(
     Ok(tasks)
 }
 
-/// The clients of tasks that have ended. Where memory is refused for one, that one is dropped.
+/// The clients of tasks that have ended. If an allocation for one fails, that one is dropped.
 pub fn clients_of<N: EngineName>(alloc: Global, tasks: Vec<Task<N>>) -> Vec<Client<N>> {
     let mut clients = Vec::new(alloc);
     for task in tasks {
@@ -62,7 +62,7 @@ pub fn clients_of<N: EngineName>(alloc: Global, tasks: Vec<Task<N>>) -> Vec<Clie
     clients
 }
 
-/// The gate of a client: the first two wait for one another, if there are two and each writes twice.
+/// The gate of a client: the first two wait for each other, if there are two and each writes twice.
 fn gate_of(alloc: Global, number: u32, plan: Plan) -> Result<Meeting, Refusal> {
     let key = if number < 2 && plan.writers() > 1 {
         Some(key_of(alloc, 1 - number)?)
@@ -72,18 +72,18 @@ fn gate_of(alloc: Global, number: u32, plan: Plan) -> Result<Meeting, Refusal> {
     Ok(Meeting { key })
 }
 
-/// The keys of the clients: a plan has at most as many.
+/// The keys of the clients: a plan has no more clients than these.
 const KEYS: [&str; 16] = [
     "w0", "w1", "w2", "w3", "w4", "w5", "w6", "w7", "w8", "w9", "w10", "w11", "w12", "w13", "w14",
     "w15",
 ];
 
-/// The key that a client writes at.
+/// The key at which a client writes.
 fn key_of(alloc: Global, number: u32) -> Result<Key, Refusal> {
     Key::new(alloc, KEYS[number as usize % KEYS.len()])
 }
 
-/// Lets the clients write, while the writer steps. Whether each of them read back what it wrote.
+/// Makes the clients write while the writer steps. Returns whether each of them read back what it wrote.
 ///
 /// # Errors
 /// `TurnLimit` if one waited for too long, `Refused` if a call or a command was refused. The error of a client with a lower number
@@ -103,7 +103,7 @@ pub fn write_all<N: EngineName + Send + Sync, R: Threads + Wait + Sync>(
     Ok(all_read)
 }
 
-/// Steps in one thread, and lets each client write in another one.
+/// Steps in one thread, and makes each client write in another one.
 fn step_and_write<N: EngineName + Send + Sync, R: Threads + Wait + Sync>(
     rt: &R,
     alloc: Global,

@@ -63,7 +63,7 @@ impl<N: EngineName> Served<'_, N> {
         Ok(())
     }
 
-    /// Receives a bundle as far as the queue has room, and handles what was received. Whether the reader sees more than before.
+    /// Receives a bundle as far as the queue has room, and handles what was received. Returns whether the reader sees more than before.
     fn take<R: Wait>(&mut self, rt: &R, alloc: Global, bundle: &[u8]) -> Result<bool, Stop> {
         let before = self.reader.seen_len();
         let received = receive(rt, alloc, self.client, bundle);

@@ -16,12 +16,12 @@ use std::alloc::{AllocError, Global};
 use std::sync::Wait;
 use std::thread::yield_now;
 
-/// Assigns the numbers from 0 to `ops - 1` at the key, in turn: waits until the gate lets it, submits, polls the answer, and reads the
-/// number back. False if a number wasn't read back; then the rest isn't submitted.
+/// Assigns the numbers from 0 to `ops - 1` at the key, in turn: waits at the gate, submits, polls the answer, and reads the number back.
+/// Returns false if a number wasn't read back; then the rest isn't submitted.
 ///
 /// # Errors
-/// `TurnLimit` if the gate stayed shut, the queue full or an answer away for `MOST_TURNS` turns; `Refused` if a call or a command was
-/// refused.
+/// `TurnLimit` if for `MOST_TURNS` turns the gate stayed shut, the queue stayed full or no answer came; `Refused` if a call or a command
+/// was refused.
 pub fn worker<N: EngineName, R: Wait, G: Gate>(
     rt: &R,
     alloc: Global,
@@ -71,7 +71,7 @@ fn wait_at<N: EngineName, G: Gate>(
     Err(Stop::TurnLimit)
 }
 
-/// Submits the assignment of the number, again while the queue is full.
+/// Submits the assignment of the number, and tries again while the queue is full.
 fn submit<N: EngineName, R: Wait>(
     rt: &R,
     alloc: Global,
@@ -117,7 +117,7 @@ fn await_answer<N: EngineName>(client: &mut Client<N>, ticket: &Ticket) -> Resul
     Err(Stop::TurnLimit)
 }
 
-/// Whether the number alone stands at the key.
+/// Whether the key has this number alone.
 fn is_read<N: EngineName>(
     alloc: Global,
     client: &mut Client<N>,

@@ -1,4 +1,4 @@
--- A list of another length than a form has is no such form.
+-- A list whose length isn't that of a form doesn't have that form.
 use Rattle.std.proofs.Common.{◌≡◌, ◌≢◌, ℕ, List, [], ◌∷◌, length, Err, refl}
 use Rattle.std.proofs.lemmas.Bool.{ltb-true, ltb-false}
 use Rattle.ids.specs.declared.refusal.Refusal.TheVariants.{BadLine}
@@ -22,5 +22,5 @@ pub nothing_of-wrong_length : (what : Call) (xs : List Value) → length xs ≢ 
 nothing_of-wrong_length what [] h = absurd (h refl)
 nothing_of-wrong_length what (a ∷ xs) h = refl
 
--- each with what a pattern of a slice tests of its length
+-- each with what a slice pattern tests of its length
 pub ruleset call_lengths = (ltb-true, ltb-false, glance_of-wrong_length, text_of-wrong_length, nothing_of-wrong_length)

@@ -17,8 +17,8 @@ use Rattle.requests.specs.wire.Forms.{and_then, json_form, number_form, phrase_f
 use Rattle.calls.specs.declared.call.Call.{Call as TypedCall}
 use Rattle.calls.specs.declared.call.Call.TheVariants as typed
 
--- a command to be made, a question, a look at what stands beneath an element, a hello to be said or answered, a bundle to be taken in,
--- a save, or a question how much there is
+-- a command to be made, a question, a look at what is beneath an element, a request for a hello or for the answer to one, a bundle to be
+-- received, a save, or a question about the status
 pub data Call : Type 0 where
   Write : Command → Call
   Ask : Asked → Call
@@ -29,7 +29,7 @@ pub data Call : Type 0 where
   Save : Call
   Status : Call
 
--- a call of the program
+-- what a call of the program calls for
 abbrev pub call_of : TypedCall → Call
 call_of (typed.Write c) = Write (command_of c)
 call_of (typed.Ask q) = Ask (asked_of q)

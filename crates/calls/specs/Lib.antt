@@ -1,3 +1,3 @@
--- What a line of a program with one document calls for, and what it is answered.
+-- What a line calls for, to a program with one document, and the response.
 pub mod Calls
 pub mod Responses

@@ -1,4 +1,4 @@
--- What a call is answered, as JSON.
+-- The response to a call, as JSON.
 use Rattle.std.specs.Prelude.{⊤, [], ◌∷◌, Option, Some, None, codes, string_bytes}
 use Rattle.semantics.specs.LegalAnswer.{Made, RefusedAt}
 use Rattle.serde_json.specs.Data.{Data, array, boolean, null, string}
@@ -13,17 +13,17 @@ use Rattle.calls.specs.declared.response.StoppedLine.{StoppedLine}
 use Rattle.calls.specs.declared.response.Response.{Response}
 use Rattle.calls.specs.declared.response.Response.TheVariants as said
 
--- how many lines were refused, and which was the first, with its code
+-- how many lines were refused, and the first of them with its code
 abbrev pub refused_json : Option RefusedLines → Data
 refused_json None = null
 refused_json (Some r) = array (items_of (count r.count ∷ count r.line ∷ string (refusal_name r.why) ∷ []))
 
--- at which line a bundle couldn't be read on, with its code
+-- the line at which reading a bundle stopped, with its code
 abbrev pub stopped_json : Option StoppedLine → Data
 stopped_json None = null
 stopped_json (Some s) = array (items_of (count s.line ∷ string (refusal_name s.why) ∷ []))
 
--- a response; what a glance shows is this JSON
+-- a response; what a glance shows is given as this JSON
 abbrev pub response_json : (shown : Data) → Response → Data
 response_json shown (said.Made id position) = reply_json (Made id position)
 response_json shown (said.Refused why length) = reply_json (RefusedAt why length)
@@ -41,7 +41,7 @@ response_json shown (said.Ready number length) = phrase (codes "ready") (count n
 response_json shown (said.Unsaved length saved) = phrase (codes "unsaved") (count length ∷ count saved ∷ [])
 response_json shown said.Lost = phrase (codes "lost") []
 
--- any response but a glance
+-- any response other than a glance
 abbrev pub IsNoGlance : Response → Type 0
 IsNoGlance (said.Glance length g) = ⊥
 IsNoGlance _ = ⊤

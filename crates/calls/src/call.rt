@@ -5,24 +5,24 @@ use requests::{Command, Expr, Question};
 /// What a line calls for.
 #[derive(Debug, Drop)]
 pub enum Call {
-    /// That a command be made, and saved.
+    /// To make a command, and to save it.
     Write(Command),
     /// For the answer to a question.
     Ask(Question),
-    /// For the element that the expression leads to and what stands beneath it, this far beneath it and this many elements.
+    /// For the element to which the expression leads and what is beneath it, to this depth below it and at most this many elements.
     Glance {
         expression: Expr,
         depth: u64,
         elements: u64,
     },
-    /// For the line by which a peer is told what is known here.
+    /// For the line that tells a peer what is known here.
     Hello,
-    /// For what the peer lacks whose hello this is, a line with or without its line feed.
+    /// For the operations that the peer with this hello lacks. The hello is a line with or without its line feed.
     Answer(String),
-    /// That the lines of a bundle be taken in, and saved.
+    /// To receive the lines of a bundle, and to save them.
     Receive(String),
-    /// That all be saved.
+    /// To save everything.
     Save,
-    /// For how much there is, and how much of it is saved.
+    /// For the length of the history, and how much of it is saved.
     Status,
 }

@@ -1,7 +1,7 @@
-//! One document over lines: the calls that a program is sent, one a line, and its responses.
+//! One document over lines: the calls that are sent to a program, one per line, and its responses.
 //!
 //! `read_call` says what a line calls for, and `write_response` writes the line that answers it. Neither knows of a document or a file:
-//! what stands between the two is the program's.
+//! what happens between the two is up to the program.
 #![tactic(auto)]
 
 mod call;

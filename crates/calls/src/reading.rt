@@ -1,4 +1,4 @@
-//! Calls, as they are read off their lines.
+//! Reading calls from their lines.
 #![tactic(auto, using(crate::proofs::WrongLengths::call_lengths))]
 
 ghost use Rattle.std.specs.Prelude.{ℕ, List, string_bytes};
@@ -15,15 +15,15 @@ use requests::{
 use serde_json::Value;
 use std::alloc::Global;
 
-/// What a line calls for, without its line feed. White space of JSON and escapes may stand in it.
+/// What a line calls for, without its line feed. It may contain JSON white space and escapes.
 ///
-/// The line is parsed as a whole before its parts are looked at, in time and memory in proportion to its length: whoever takes lines
-/// from others bounds their length first.
+/// The line is parsed whole before its parts are looked at, in time and memory in proportion to its length: whoever takes lines from others
+/// must bound their length first.
 ///
 /// # Errors
-/// `BadLine` if the text is no JSON, or no list that begins with the word of a call; else the first fault of its parts from the left.
-/// A part of another form, one too few and one too many are `BadLine`, a key of more than 256 bytes `KeyTooLong`, and of the value of a
-/// command a text of more than 4,096 bytes `TextTooLong` and a number that isn't whole `NotWhole`. `NoMemory` if allocation fails.
+/// `BadLine` if the text is no JSON, or no list that begins with the word of a call; else the first fault of its parts from the left. A
+/// part of another form, a missing part and an extra part are `BadLine`; a key of more than 256 bytes is `KeyTooLong`; in the value of a
+/// command, a text of more than 4,096 bytes is `TextTooLong` and a number that isn't whole is `NotWhole`. `NoMemory` if allocation fails.
 pub fn read_call(alloc: Global, line: &[u8]) -> Result<Call, Refusal>
     ensures { IsRead call_of result (call_form line.now) }
 {
@@ -45,7 +45,7 @@ fn call_in(alloc: Global, value: &Value) -> Result<Call, Refusal>
     }
 }
 
-/// A call of another word than those of commands and glances.
+/// A call whose word isn't that of a command or a glance.
 fn other_call_in(alloc: Global, word: &str, value: &Value, parts: &[Value]) -> Result<Call, Refusal>
     ensures { IsRead call_of result (other_call_of (view value.now) (word.now, items_view parts.now)) }
 {
@@ -82,7 +82,7 @@ fn question_call_in(alloc: Global, value: &Value) -> Result<Call, Refusal>
     Ok(Call::Ask(question_in(alloc, Edition::Second, value)?))
 }
 
-/// An expression, how far beneath its element to look, and at how many elements.
+/// An expression, the depth below its element, and the number of elements.
 fn glance_in(alloc: Global, parts: &[Value]) -> Result<Call, Refusal>
     ensures { IsRead call_of result (glance_of (items_view parts.now)) }
 {

@@ -1,12 +1,12 @@
-//! What a call is answered.
+//! The response to a call.
 
 use ids::{NamedVector, OpId, Refusal};
 use requests::{Glance, Reading};
 
-/// What a call is answered, or the program says of itself. A length is how many operations the history has.
+/// The response to a call, or what the program says of itself. A length is the number of operations in the history.
 #[derive(Debug, Drop)]
 pub enum Response {
-    /// The id and the position of what was made of a command, and saved.
+    /// The id and the position of what was made of a command and saved.
     Made(OpId, u64),
     /// Why nothing was made, read or looked at, and the length.
     Refused(Refusal, u64),
@@ -16,15 +16,15 @@ pub enum Response {
     Read(u64, Reading),
     /// The length, and a glance.
     Glance(u64, Glance),
-    /// The vector of all that is here, for a peer.
+    /// The vector of everything that is here, for a peer.
     Hello(NamedVector),
-    /// Lines for a peer, whether it lacks more than these, and whether it knows more operations of this number than are here.
+    /// Lines for a peer, whether it lacks more than these, and whether it knows more of this number's operations than are here.
     Bundle {
         lines: String,
         has_more: bool,
         is_beyond: bool,
     },
-    /// How many lines were taken, which were refused, and where the bundle couldn't be read on.
+    /// How many lines were taken, which were refused, and where reading the bundle stopped, if it did.
     Received {
         taken: u64,
         refused: Option<RefusedLines>,
@@ -43,12 +43,12 @@ pub enum Response {
         number: u32,
         length: u64,
     },
-    /// The length, and how many operations of it are saved: what was called for stands in the document, and couldn't be saved.
+    /// The length, and how many operations of it are saved: what was called for is in the document, but couldn't be saved.
     Unsaved {
         length: u64,
         saved: u64,
     },
-    /// Nobody knows what is saved.
+    /// It isn't known what is saved.
     Lost,
 }
 
@@ -61,7 +61,7 @@ pub struct RefusedLines {
     pub why: Refusal,
 }
 
-/// The line, from 1, at which a bundle couldn't be read on, and why.
+/// The line, from 1, at which reading a bundle stopped, and why.
 #[derive(Clone, Copy, Debug)]
 pub struct StoppedLine {
     pub line: u64,

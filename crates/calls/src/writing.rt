@@ -1,4 +1,4 @@
-//! Responses, as they are written.
+//! Writing responses.
 
 ghost use Rattle.std.specs.Prelude.{◌≡◌, ◌∷◌, [], IfOk, IsUtf8, OnOk, codes};
 ghost use Rattle.serde_json.specs.Data.{Data, boolean, string};
@@ -21,7 +21,7 @@ use requests::{
 use serde_json::json;
 use std::alloc::{AllocError, Global};
 
-/// The line of a response, with its line feed: JSON without spaces, and no other line feed. In time and memory in proportion to it.
+/// The line of a response, with its line feed: JSON without spaces or any other line feed. Takes time and memory in proportion to it.
 ///
 /// # Errors
 /// `AllocError` if allocation fails.
@@ -56,7 +56,7 @@ fn glance_text(alloc: Global, length: u64, glance: &Glance) -> Result<Vec<u8>, A
     json!(in alloc; ["glance", length, shown])?.to_vec(alloc)
 }
 
-/// The text of any other response, which is written token by token.
+/// The text of any other response, written token by token.
 fn token_text(alloc: Global, response: &Response) -> Result<Vec<u8>, AllocError>
     requires { IsNoGlance response.now }
     ensures text { IfOk result (λ text. (shown : Data) → text.items ≡ compact_text (response_json shown response.now)) }
@@ -112,7 +112,7 @@ fn put_denied(alloc: Global, out: &mut Writer, why: Refusal) -> Result<(), Alloc
     out.end_array()
 }
 
-/// Writes a vector as a peer is told it.
+/// Writes a vector as a hello for a peer.
 fn put_hello(out: &mut Writer, vector: &NamedVector) -> Result<(), AllocError>
     ensures { OnOk result (IsWritten (tokens_of (hello_json vector.now)) out.old out.new) }
 {
@@ -140,7 +140,7 @@ fn put_bundle(
     out.end_array()
 }
 
-/// Writes what became of a bundle's lines.
+/// Writes the outcome of a bundle's lines.
 fn put_received(
     alloc: Global,
     out: &mut Writer,

@@ -1,4 +1,4 @@
-//! Lines of the protocol with what they call for, and responses with their lines.
+//! Lines of the protocol with the calls that they make, and responses with their lines.
 
 mod faults;
 mod reading;

@@ -27,7 +27,7 @@ module _ {E : Type 0} (gives : List ℕ → Result ℕ E → Type 0)
       at_text None e = subst (λ o. IfSome o (IsNumber id (rows_of f))) (sym (none e)) tt
       at_text (Some t) e = of_read t e r (value t e)
 
-  -- where nothing was read, there is no text with a number of 32 bits
+  -- if nothing was read, there is no text with a number of 32 bits
   pub no_number : (f : Found) (id : Text) (r : Option ℕ) → ((t : List ℕ) → one_text f id ≡ Some t → ReadsOne gives t r) → r ≡ None → (n : ℕ)
       → n < 4294967296 → IsNumber id (rows_of f) n → ⊥
   no_number f id r value gone n below is =

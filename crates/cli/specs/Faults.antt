@@ -1,4 +1,4 @@
--- What is told of a fault, and the status that a run ends with by it.
+-- What is reported of a fault, and the status with which it ends a run.
 use Rattle.std.specs.Prelude.{◌++◌, List, ℕ, codes, decimal}
 use Rattle.scripts.specs.Errors.{error_text}
 use Rattle.scripts.specs.declared.error.ScriptError.TheVariants as script
@@ -8,7 +8,7 @@ use Rattle.cli.specs.declared.fault.Fault.TheVariants.{Damaged, Lost, NotWritten
 use Rattle.cli.specs.declared.fault.Status.{Status}
 use Rattle.cli.specs.declared.fault.Status.TheVariants as status
 
--- the status of a run that ends by this fault
+-- the status of a run that ends with this fault
 abbrev pub status_of : Fault → Status
 status_of (Script (script.BadLine line refusal)) = status.BadInput
 status_of (Script script.NoMemory) = status.NoMemory
@@ -23,7 +23,7 @@ status_of (Lost name) = status.NotWritten
 status_of NotWritten = status.NotWritten
 status_of NoMemory = status.NoMemory
 
--- what is told of a fault, without the line feed
+-- what is reported of a fault, without the line feed
 abbrev pub fault_text : Fault → List ℕ
 fault_text (Script error) = codes "jdoc: " ++ error_text error
 fault_text (CannotRead name) = codes "jdoc: cannot read " ++ name.now

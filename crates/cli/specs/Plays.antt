@@ -1,4 +1,4 @@
--- What a bench prints, and the statuses that it ends with.
+-- What a bench prints, and the statuses with which it ends.
 use Rattle.std.specs.Prelude.{◌≡◌, ◌⊎◌, ◌++◌, ℕ, List, codes, decimal}
 
 -- done, differ, turn limit, no memory, or not written

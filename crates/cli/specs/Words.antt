@@ -1,4 +1,4 @@
--- The program's words, as the crate that parses them defines what a command takes and finds.
+-- The program's words, in the terms of the crate that parses them: what a command takes and finds.
 use Rattle.std.specs.Prelude.{◌≡◌, ◌≢◌, ◌<◌, ℕ, List, [], ◌∷◌, true, codes, Option, None, Some, option_map}
 use Rattle.std.specs.Str.Parse.{IsNumeral, digits_value, without_leading_plus}
 use Rattle.clap.specs.Words.{App, Row, Rule, Shape, Text, first_of, kind_of, one_of, new_app, new_rule, subcommand_of, with_rule}
@@ -23,11 +23,11 @@ script_rule = new_rule (codes "SCRIPT")
 abbrev pub run_app : App
 run_app = with_rule (new_app (codes "run")) script_rule
 
--- an option that has to be given, with a number from 1 on
+-- a required option, with a number from 1 on
 abbrev pub number_rule : Text → ℕ → Rule
 number_rule name most = record (new_rule name) { long = Some name; required = true; parser = Some (Unsigned 1 most) }
 
--- an option with the capacity of a queue, the greatest where it isn't given
+-- an option with the capacity of a queue, by default the greatest
 abbrev pub queue_rule : Rule
 queue_rule = record (new_rule (codes "queue")) {
   long = Some (codes "queue");
@@ -35,7 +35,7 @@ queue_rule = record (new_rule (codes "queue")) {
   defaults = codes "65536" ∷ [];
 }
 
--- `bench` with the options that have to be given
+-- `bench` with its required options
 abbrev pub required_app : App
 required_app = with_rule
     (with_rule (with_rule (new_app (codes "bench")) (number_rule (codes "replicas") 16)) (number_rule (codes "writers") 16))
@@ -53,11 +53,11 @@ own_number_rule = record (new_rule (codes "number")) { long = Some (codes "numbe
 abbrev pub serve_app : App
 serve_app = with_rule (with_rule (new_app (codes "serve")) (new_rule (codes "FILE"))) own_number_rule
 
--- the program's own name is no word, and a subcommand is needed
+-- the program's own name isn't one of the words, and a subcommand is needed
 abbrev pub with_settings : Shape → Shape
 with_settings s = record s { no_binary_name = true; subcommand_required = true }
 
--- the words of the program that are of engines: `run` or `bench`, each with its own
+-- the words of the program that concern engines: `run` or `bench`, each with its own
 abbrev pub engines_app : App
 engines_app = with_subcommand (with_subcommand (on_top with_settings (new_app (codes "jdoc"))) run_app.top) bench_app.top
 
@@ -65,7 +65,7 @@ engines_app = with_subcommand (with_subcommand (on_top with_settings (new_app (c
 abbrev pub jdoc_app : App
 jdoc_app = with_subcommand engines_app serve_app.top
 
--- the option's text is a decimal numeral, maybe after a plus, and this is its number
+-- the option's text is a decimal numeral, possibly after a plus, and this is its number
 abbrev pub IsNumber : Text → List Row → ℕ → Type 0
 IsNumber option rows n = (t : Text) × (one_of option rows ≡ Some t) × IsNumeral 10 (without_leading_plus t)
     × (n ≡ digits_value 10 (without_leading_plus t))
@@ -83,7 +83,7 @@ abbrev pub IsNumberGiven : List Row → Option ℕ → Type 0
 IsNumberGiven rows None = (n : ℕ) → n < 4294967296 → IsNumber (codes "number") rows n → ⊥
 IsNumberGiven rows (Some n) = IsNumber (codes "number") rows n
 
--- what a subcommand with what was found there asks for
+-- the job that a subcommand with its options asks for
 abbrev pub IsAskedBy : Text × List Row → Job → Type 0
 IsAskedBy p (Run script) = (p.0 ≢ codes "bench") × (p.0 ≢ codes "serve")
     × (first_of (codes "SCRIPT") p.1 ≡ option_map (λ s. s.now) script)
@@ -95,7 +95,7 @@ IsAskedBy p (Serve file number) = (p.0 ≡ codes "serve") × (first_of (codes "F
 abbrev pub IsJobOf : List Text → Job → Type 0
 IsJobOf words job = (p : Text × List Row) × (subcommand_of jdoc_app words ≡ Some p) × IsAskedBy p job
 
--- the words are refused, or they ask for nothing that could be done
+-- the words are refused, or they ask for something that can't be done
 abbrev pub IsRefusedBy : List Text → BadWords → Type 0
 IsRefusedBy words (Refused error) = HasKind (fault_of jdoc_app words) error
 IsRefusedBy words OutOfRange = (job : Job) → IsJobOf words job → ⊥

@@ -9,9 +9,9 @@ use std::io::{BufRead, ErrorKind, Write};
 use std::random::RandomSource;
 use std::sync::Wait;
 
-/// Serves the document in the file of this name, or one in memory where none is given: a request a line, a reply a line, until the input
-/// ends. The replica's number is the one that is given, else that of the file, else one that is drawn. A line of `faults` says why it
-/// can't be served, or no longer. Returns the status that the process exits with.
+/// Serves the document in the file of this name, or one in memory if no name is given: one request per line, one reply per line, until the
+/// input ends. The replica's number is the one that is given, else that of the file, else a random one. A line of `faults` says why it
+/// can't be served, or can't be served any longer. Returns the status with which the process exits.
 pub fn serve<R: Files<File = File> + RandomSource + Wait, B: BufRead, O: Write, F: Write>(
     rt: &R,
     alloc: Global,
@@ -31,7 +31,7 @@ pub fn serve<R: Files<File = File> + RandomSource + Wait, B: BufRead, O: Write, 
     }
 }
 
-/// Serves the document in a file, which no other program has.
+/// Serves the document in a file that no other program has.
 fn serve_file<'a, R: Files<File = File> + RandomSource + Wait, B: BufRead, O: Write>(
     rt: &R,
     alloc: Global,
@@ -50,7 +50,7 @@ fn serve_file<'a, R: Files<File = File> + RandomSource + Wait, B: BufRead, O: Wr
     }
 }
 
-/// Serves the document in a store, which is told of under this name.
+/// Serves the document in a store, which is reported under this name.
 pub fn serve_store<'a, R: RandomSource + Wait, S: Store + Drop, B: BufRead, O: Write>(
     rt: &R,
     alloc: Global,
@@ -86,7 +86,7 @@ fn fault_of(name: &str, why: NotServed) -> Fault<'_> {
     }
 }
 
-/// Why a document is served no longer.
+/// Why serving a document stopped.
 fn stop_of(name: &str, stop: Stop) -> Fault<'_> {
     match stop {
         Stop::NoMemory => Fault::NoMemory,

@@ -1,4 +1,4 @@
-//! Why a run ends without its replies, and the statuses that a run ends with.
+//! Why a run ends without its replies, and the statuses with which a run ends.
 
 ghost use Rattle.std.specs.Prelude.{◌≡◌, ◌≢◌, ◌⊎◌};
 ghost use Rattle.std.specs.Io.KnownBytes.{Appends};
@@ -11,7 +11,7 @@ use std::io::{ErrorKind, Write};
 use std::{fmt, io};
 use thiserror::Error;
 
-/// How a run ended, by the status that the process exits with.
+/// How a run ended, as the status with which the process exits.
 #[derive(Clone, Copy, Debug, PartialEq, Eq)]
 pub enum Status {
     Done = 0,
@@ -26,10 +26,10 @@ pub enum Status {
     NotWritten = 5,
 }
 
-/// Why a run has no replies, as it is told on standard error.
+/// Why a run has no replies, as reported on standard error.
 #[derive(Debug, Drop, Error)]
 pub enum Fault<'a> {
-    /// A line of the script is bad, or there was no memory for it.
+    /// A line of the script is bad, or an allocation for it failed.
     Script(ScriptError),
     /// The file or stream of this name can't be read.
     CannotRead(&'a str),
@@ -37,22 +37,22 @@ pub enum Fault<'a> {
     BadWord,
     /// A number is outside its limits.
     OutOfRange,
-    /// The file of this name can't be opened, or not be made to last.
+    /// The file of this name can't be opened, or can't be made durable.
     CannotOpen(&'a str),
     /// Another program has the file of this name.
     InUse(&'a str),
-    /// The file of this name is another number's: this one's.
+    /// The file of this name is of another number: this one.
     OtherNumber(&'a str, u32),
-    /// A line of the file of this name, counted from 1, doesn't fit: it was changed, or is no journal.
+    /// A line of the file of this name, counted from 1, doesn't fit: the file was changed, or isn't a journal.
     Damaged(&'a str, u64),
-    /// A sync of the file of this name failed, so nobody knows what it has.
+    /// A sync of the file of this name failed, so it isn't known what it has.
     Lost(&'a str),
     /// A reply can't be written.
     NotWritten,
     NoMemory,
 }
 
-// Written out, since no contract says what a derived one prints.
+// Written by hand, since no contract says what a derived one prints.
 impl fmt::Display for Fault<'_> {
     ghost use Rattle.std.specs.Prelude.{Some};
     ghost use Rattle.cli.specs.Faults.{fault_text};
@@ -113,11 +113,11 @@ impl<'a> Fault<'a> {
         }
     }
 
-    /// Tells the fault on standard error, as a line, and returns the status of the run.
+    /// Reports the fault on standard error, as a line, and returns the status of the run.
     pub fn report<W: Write>(&self, faults: &mut W) -> Status
         ensures status { (result ≡ status_of self.now) ⊎ (result ≡ NotWritten) }
 
-        // Only what holds of known bytes can be said.
+        // This says something only if the bytes are known.
         ensures told { result ≢ NotWritten → Appends (W.contents faults.old) (W.contents faults.new) (line_of self.now) }
     {
         match writeln!(faults, "{self}") {

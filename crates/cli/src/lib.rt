@@ -1,4 +1,4 @@
-//! The command line of `jdoc`: its words, what a run reads and writes, its faults, and the statuses that it ends with.
+//! The command line of `jdoc`: its words, what a run reads and writes, its faults, and the statuses with which it ends.
 #![tactic(auto)]
 
 mod documents;

@@ -1,4 +1,4 @@
-//! Lets threads write into engines, and prints what came of it.
+//! Makes threads write into engines, and prints what came of it.
 
 ghost use Rattle.std.specs.Prelude.{◌≡◌, ◌⊎◌, ◌*◌};
 ghost use Rattle.std.specs.Io.KnownBytes.{Appends};
@@ -16,9 +16,9 @@ use std::io::Write;
 use std::sync::Wait;
 use std::thread::Threads;
 
-/// Plays the plan. Prints `agree N replicas M operations` if each thread read back what it wrote and all N engines show the
-/// same in histories of M operations, as many as were submitted, else `differ`. A line of `faults` says that a thread waited for too
-/// long, or that there was no memory. Returns the status that the process exits with.
+/// Plays the plan. Prints `agree N replicas M operations` if each thread read back what it wrote and all N engines show the same in
+/// histories of M operations, as many as were submitted, else `differ`. A line of `faults` says that a thread waited for too long, or that
+/// an allocation failed. Returns the status with which the process exits.
 pub fn bench<R: Threads + Wait + Sync, O: Write, F: Write>(
     rt: &R,
     alloc: Global,
@@ -28,7 +28,7 @@ pub fn bench<R: Threads + Wait + Sync, O: Write, F: Write>(
 ) -> u8
     ensures status { IsBenchStatus result }
 
-    // Only what holds of known bytes can be said.
+    // This says something only if the bytes are known.
     ensures agree { result ≡ 0
         → Appends (O.contents out.old) (O.contents out.new) (agreement plan.replicas (plan.replicas * (plan.writers * plan.ops))) }
     ensures differ { result ≡ 1 → Appends (O.contents out.old) (O.contents out.new) difference }
@@ -86,7 +86,7 @@ fn differ<O: Write>(out: &mut O) -> Status
     }
 }
 
-/// Tells that a thread waited for too long.
+/// Reports that a thread waited for too long.
 fn tell_limit<W: Write>(faults: &mut W) -> Status
     ensures status { (result ≡ TurnLimit) ⊎ (result ≡ NotWritten) }
     ensures told { result ≡ TurnLimit → Appends (W.contents faults.old) (W.contents faults.new) limit }

@@ -13,8 +13,8 @@ use scripts::replies_to;
 use std::alloc::Global;
 use std::io::{Read, Write};
 
-/// Reads a whole script, checks each line, runs its steps, and then prints the replies. A line of `faults` names a script that can't
-/// be read, or the first bad line. Returns the status that the process exits with.
+/// Reads a whole script, checks each line, runs its steps, and then prints the replies. A line of `faults` names a script that can't be
+/// read, or the first bad line. Returns the status with which the process exits.
 pub fn run_script<R: Read, O: Write, F: Write>(
     alloc: Global,
     name: &str,
@@ -24,7 +24,7 @@ pub fn run_script<R: Read, O: Write, F: Write>(
 ) -> u8
     ensures status { IsStatus result }
 
-    // Only what holds of known bytes can be said.
+    // This says something only if the bytes are known.
     ensures done { result ≡ 0 → AppendsReplies (R.remaining reader.old) (O.contents out.old) (O.contents out.new) }
     ensures silent { (result ≡ 2) ⊎ (result ≡ 4) → O.contents out.new ≡ O.contents out.old }
     ensures no_fault { result ≡ 0 → F.contents faults.new ≡ F.contents faults.old }

@@ -24,7 +24,7 @@ pub enum Job<'a> {
     Run {
         script: Option<&'a str>,
     },
-    /// Let threads write into engines, as the plan says.
+    /// Make threads write into engines, as the plan says.
     Bench(Plan),
     /// Serve the document in the file of this name, by default one in memory, as the replica of this number.
     Serve {
@@ -33,10 +33,10 @@ pub enum Job<'a> {
     },
 }
 
-/// Why the words ask for nothing.
+/// Why nothing is done for the words.
 #[derive(Debug, Drop)]
 pub enum BadWords {
-    /// What `clap` answers to them, help that they ask for included.
+    /// What `clap` answers to them, including help if they ask for it.
     Refused(Error),
     /// A number is outside its limits.
     OutOfRange,
@@ -87,8 +87,8 @@ fn parse<'a>(alloc: Global, words: &'a [&'a str]) -> Result<ArgMatches<'a>, Erro
     command(alloc)?.try_get_matches_from(words)
 }
 
-/// The plan that the options of `bench` give. `clap` has tested their limits; they are tested again, since its contract says
-/// nothing of them below a subcommand.
+/// The plan in the options of `bench`. `clap` has tested their limits; they are tested again, since its contract says nothing of options
+/// below a subcommand.
 fn plan_of(found: &ArgMatches<'_>) -> Option<Plan>
     ensures plan { IfSome result (IsPlanOf (rows_of (found_of found.now))) }
     ensures none { result ≡ None → (plan : Plan) → IsPlanOf (rows_of (found_of found.now)) plan → ⊥ }
@@ -118,7 +118,7 @@ fn command<'a>(alloc: Global) -> Result<Command<'a>, AllocError>
     engines_command(alloc)?.subcommand(serve_command(alloc)?)
 }
 
-/// The program with what it does with engines.
+/// The program with its subcommands for engines.
 fn engines_command<'a>(alloc: Global) -> Result<Command<'a>, AllocError>
     ensures words { IfOk result (λ c. app_of c ≡ engines_app) }
     ensures local { IfOk result (λ c. (fields_of c).has_globals ≡ false) }
@@ -210,7 +210,7 @@ fn queue_option<'a>(alloc: Global) -> Arg<'a>
 }
 
 impl BadWords {
-    /// Prints on standard error what `clap` answers, help included, or that there was no memory. Returns the status of the run.
+    /// Prints on standard error what `clap` answers, including help, or that an allocation failed. Returns the status of the run.
     pub fn report<W: Write>(&self, faults: &mut W) -> Status
         ensures memory { IsOutOfMemory self.now → (result ≡ NoMemory) ⊎ (result ≡ NotWritten) }
         ensures other { (IsOutOfMemory self.now → ⊥) → (result ≡ BadInput) ⊎ (result ≡ NotWritten) }
@@ -223,7 +223,7 @@ impl BadWords {
     }
 }
 
-/// Prints what `clap` answers, or that there was no memory, and returns the status of the run.
+/// Prints what `clap` answers, or that an allocation failed, and returns the status of the run.
 fn report<W: Write>(error: &Error, faults: &mut W) -> Status
     ensures memory { kind_of error.now ≡ ErrorKind.OutOfMemory → (result ≡ NoMemory) ⊎ (result ≡ NotWritten) }
     ensures other { kind_of error.now ≢ ErrorKind.OutOfMemory → (result ≡ BadInput) ⊎ (result ≡ NotWritten) }
@@ -235,7 +235,7 @@ fn report<W: Write>(error: &Error, faults: &mut W) -> Status
     }
 }
 
-/// Prints what `clap` answers; the words are bad, or the text wasn't written.
+/// Prints what `clap` answers. The status says that the words are bad, or that the text wasn't written.
 fn tell<W: Write>(error: &Error, faults: &mut W) -> Status
     ensures { (result ≡ BadInput) ⊎ (result ≡ NotWritten) }
 {

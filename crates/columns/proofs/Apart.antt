@@ -1,4 +1,4 @@
--- Different items, in one list and in the blocks of one.
+-- Distinct items, in one list and in the blocks of one.
 use Rattle.std.proofs.Common.{◌≡◌, refl, sym, ap, ◌∙◌, subst, ℕ, zero, suc, Bool, true, false, true≢false, ◌||◌, List, [], ◌∷◌, ◌++◌}
 use Rattle.std.proofs.Common.{take, drop, Some, slice_get}
 use Rattle.std.proofs.lemmas.List.{take-append-drop}

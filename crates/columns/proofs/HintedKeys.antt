@@ -1,4 +1,4 @@
--- Where a key stands, or goes, by a look at keys beside it.
+-- Where a key stands, or goes, by a look at the keys next to it.
 use Rattle.std.proofs.Common.{◌≡◌, ◌⊎◌, ◌≤◌, ◌<◌, ◌∙◌, ℕ, List, [], IsTrue, length, get_or, slice_get, Some, Ok, inl, inr, ap, sym, refl}
 use Rattle.std.proofs.Common.{arith}
 use Rattle.std.specs.declared.cmp.Ordering.TheVariants.{Less, Equal}

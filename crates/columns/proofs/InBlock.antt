@@ -1,4 +1,4 @@
--- Where an item goes in a block, and what its floor tells.
+-- Where an item goes in a block, and what its floor says.
 use Rattle.std.proofs.Common.{◌≡◌, refl, sym, ap, ◌∙◌, subst, ℕ, zero, suc, ◌+◌, ◌≤◌, Bool, true, false, true≢false, cond, ◌||◌, List, []}
 use Rattle.std.proofs.Common.{◌∷◌, ◌++◌, length, get_or, set, length-set, drop, take, take_all, ◌-◌, Option, Some, None, slice_get, arith}
 use Rattle.std.proofs.Common.{append_assoc, length-append}

@@ -25,3 +25,16 @@ pub mod IndexedBlocks
 pub mod Raised
 pub mod Marked
 pub mod StandingTags
+pub mod Counters
+pub mod PutEach
+pub mod ByReplica
+pub mod ListPuts
+pub mod StandingPuts
+pub mod WrittenColumns
+pub mod UpTo
+pub mod LatePuts
+pub mod KindsInColumns
+pub mod Merged
+pub mod NumbersByReplica
+pub mod HomePuts
+pub mod WithColumns

@@ -1,4 +1,4 @@
--- The flags of keys that rise.
+-- The flags of keys in ascending order.
 use Rattle.std.proofs.Common.{◌≡◌, ℕ, zero, suc, ◌<◌, List, [], ◌∷◌, length, refl, get_or, set, Some, sym, ap, ◌∙◌, subst, arith}
 use Rattle.std.specs.Prelude.{IsTrue, slice_get}
 use Rattle.std.specs.List.{zip}
@@ -35,7 +35,7 @@ module _ {K X Y : Type 0} (R : K → K → Ordering) (o : IsTotalOrder R) (ks : 
   stands i k at = stands_here R o k ks i k rising (slice_get_within ks i k at)
       (ap (R k) (get_or_from_slice_get ks i k k at) ∙ tied_itself o k)
 
-  -- what stands beside it in another column
+  -- what stands at its position in another column
   pub find_paired : (i : ℕ) (k : K) (v : X) (w : Y) → slice_get (zip ks vs) i ≡ Some (k, v) → slice_get ws i ≡ Some w
       → find R k (zip ks ws) ≡ Some w
   find_paired i k v w at paired =

@@ -19,7 +19,7 @@ use Rattle.columns.proofs.Ranks.{turned}
 pub bytes_from : (name : Name) → ((i : ℕ) → get_or name i 0 < 256) → AreBytes name
 bytes_from name each = λ i d inside. (let h = each i in let same = get_or_default name i 0 d inside in omega (arith, h, same))
 
--- a byte, or 0 behind the end
+-- a byte, or 0 past the end
 pub byte_below : (name : Name) (i : ℕ) → AreBytes name → get_or name i 0 < 256
 byte_below [] i bytes = omega arith
 byte_below (b ∷ name) zero bytes = All-head (λ b. b < 256) b name bytes

@@ -174,7 +174,7 @@ module _ (r q : ListBlock) (i : ℕ) (a : OpId) (b : Bool) (items : q.items ≡ 
       ∙ set_one f a b (joined runs) (offset runs k i) apart (item_there runs k is there) in
       shown_is (set runs k q) long_set ∙ (λ t. items_where_true (after t) (same t)) ∙ shown_by (changed f a b) (joined runs)
 
--- an item that isn't there is no matter
+-- an item that isn't there doesn't matter
 pub filter_lacking : (f : OpId → Bool) (id : OpId) (b : Bool) (xs : List OpId) → has_item id xs ≡ false
     → filter f xs ≡ filter (λ a. cond (is_same_id a id) b (f a)) xs
 filter_lacking f id b [] h = refl

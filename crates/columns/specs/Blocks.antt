@@ -10,11 +10,11 @@ use Rattle.columns.specs.declared.walks.Position.{Position}
 
 -- a block
 pub record ListBlock : Type 0 where
-  -- by which its items find it
+  -- by which its items refer to it
   pub number : ℕ
   -- in list order
   pub items : List OpId
-  -- of each whether it is shown
+  -- for each item whether it is shown
   pub flags : List Bool
   -- for how many more there is room
   pub room : ℕ
@@ -72,7 +72,7 @@ IsFirstSmaller a items from None = (rest : List OpId) → take from items ++ ski
 IsFirstSmaller a items from (Some index) = (index < length items)
     × ((rest : List OpId) → take from items ++ skip a (drop from items ++ rest) ≡ take index items ++ (a ∷ (drop index items ++ rest)))
 
--- no item stands twice
+-- no item occurs twice
 abbrev pub AreApart : List OpId → Type 0
 AreApart [] = Unit {0}
 AreApart (a ∷ rest) = (has_item a rest ≡ false) × AreApart rest
@@ -118,13 +118,13 @@ pub record AreIndexed (runs : List ListBlock) (indices : List ℕ) : Type 0 wher
   pub within : All (λ k. k < length runs) indices
   pub indexed : (block : ℕ) (r : ListBlock) → slice_get runs block ≡ Some r → slice_get indices r.number ≡ Some block
 
--- a block came in at this index: what stood before it stays, and the others stand one further
+-- a block was inserted at this index: those before it stay, and the others move one further
 pub record AreMovedOn (old : List ℕ) (index : ℕ) (new : List ℕ) : Type 0 where
   pub long : length new ≡ length old
   pub kept : (number k : ℕ) → slice_get old number ≡ Some k → k < index → slice_get new number ≡ Some k
   pub moved : (number k : ℕ) → slice_get old number ≡ Some k → index ≤ k → slice_get new number ≡ Some (suc k)
 
--- and it has the next number
+-- and the new block has the next number
 pub record IsMadeAt (old : List ℕ) (index : ℕ) (new : List ℕ) : Type 0 where
   pub moved : List ℕ
   pub on : AreMovedOn old index moved
@@ -148,7 +148,7 @@ pub record IsBehind (runs : List ListBlock) (item : Option OpId) (block index : 
   pub within : block < length runs → index ≤ length (items_at runs block)
   pub inside : 0 < length runs → block < length runs
 
--- a goes to this position where it comes in at the other one
+-- a goes to this position if it comes in at the other one
 pub record GoesIn (runs : List ListBlock) (a : OpId) (from_block from_index block index : ℕ) : Type 0 where
   pub inside : block < length runs
   pub within : index ≤ length (items_at runs block)

@@ -9,9 +9,9 @@ pub record Row : Type 0 where
 
 -- a finite map to numbers, and one of the same keys to flags
 pub record Flagged (K : Type 0) : Type 0 where
-  -- each key with its number, rising by key
+  -- each key with its number, in ascending order of key
   pub entries : List (K × ℕ)
-  -- each key with its flag, rising by key
+  -- each key with its flag, in ascending order of key
   pub flags : List (K × Bool)
   -- for how many more keys there is room
   pub room : ℕ

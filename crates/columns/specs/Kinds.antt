@@ -1,4 +1,4 @@
--- As what something stands at an element.
+-- The kinds of value that are present at an element.
 use Rattle.std.specs.Prelude.{◌≡◌, Bool, List}
 use Rattle.std.specs.List.{list_any}
 use Rattle.semantics.specs.Ids.{OpId}
@@ -8,7 +8,7 @@ use Rattle.cursor.specs.declared.tag.Tag.{Tag}
 use Rattle.cursor.specs.Steps.{tag_of}
 use Rattle.columns.specs.declared.kinds.Kinds.{Kinds}
 
--- whether something stands there as this
+-- whether a value with this tag is present
 abbrev pub has_kind : Kinds → TheTag → Bool
 has_kind k AsRegister = k.register
 has_kind k AsMap = k.map
@@ -18,6 +18,6 @@ has_kind k AsList = k.list
 abbrev pub stands_as : TheTag → List (OpId × Tag) → Bool
 stands_as t es = list_any (λ e. is_same_tag t (tag_of e.1)) es
 
--- as what something stands where these ids stand
+-- the kinds are the tags with which these ids stand
 abbrev pub AreKinds : Kinds → List (OpId × Tag) → Type 0
 AreKinds k es = (t : TheTag) → has_kind k t ≡ stands_as t es

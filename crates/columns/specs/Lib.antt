@@ -3,10 +3,13 @@ pub mod Rank
 pub mod Entries
 pub mod Kinds
 pub mod Held
+pub mod RisingCounters
+pub mod ReplicaColumns
 pub mod HeldTags
 pub mod Keys
 pub mod Prefix
 pub mod Numbered
+pub mod NumberColumns
 pub mod Flagged
 pub mod Orders
 pub mod Blocks

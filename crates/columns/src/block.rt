@@ -12,19 +12,18 @@ use std::alloc::{AllocError, Global};
 use std::marker::Model;
 use std::mem::replace;
 
-/// Neighbouring items of a list, with what a walk asks before it looks at each of them: how many are shown, and an id that none of
-/// theirs is smaller than.
+/// Neighbouring items of a list, with what lets a walk skip them: how many are shown, and an id that none of theirs is smaller than.
 ///
-/// Contracts see the number of the block, its items in list order, of each whether it is shown, and for how many more there is room.
+/// Contracts see the number of the block, its items in list order, for each whether it is shown, and for how many more there is room.
 #[derive(Debug, Drop)]
 pub(crate) struct Block {
     number: usize,
     ids: Vec<OpId>,
-    /// Of each item whether it is shown.
+    /// For each item whether it is shown.
     flags: Vec<bool>,
     /// How many items are shown.
     shown: usize,
-    /// No item is smaller. `None` where there is no item.
+    /// No item is smaller. `None` if there are no items.
     floor: Option<OpId>,
 }
 
@@ -90,7 +89,7 @@ impl Block {
         self.ids[index]
     }
 
-    /// The index of an item. Looks at the one at `hint`, and then at each one before it.
+    /// The index of an item. Tries the item at `hint`, and otherwise looks at each one up to the one sought.
     pub fn position(&self, id: &OpId, hint: usize) -> Option<usize>
         requires { AreApart self.now.items }
         ensures { IsPositionOf id.now self.now.items result }
@@ -124,8 +123,8 @@ impl Block {
         push_shown_of(&self.ids, &self.flags, items)
     }
 
-    /// The index of the first item, from `from` on, that is smaller than this id. Looks at one id where all are greater and `from` is 0,
-    /// and at each up to there otherwise.
+    /// The index of the first item, from `from` on, that is smaller than this id. Looks at one id if all items of the block are greater,
+    /// and otherwise at each from `from` up to the result.
     pub fn first_smaller(&self, from: usize, id: &OpId) -> Option<usize>
         requires { from ≤ length self.now.items }
         ensures { IsFirstSmaller id.now self.now.items from result }
@@ -151,7 +150,7 @@ impl Block {
         self.flags.reserve(1)
     }
 
-    /// Puts an item at an index, not shown. Allocates nothing, and moves each item behind it.
+    /// Inserts an item at an index, not shown. Allocates nothing, and shifts each item behind it.
     pub fn put(&mut self, index: usize, id: OpId)
         requires within { index ≤ length self.old.items }
         requires room { 0 < self.old.room }
@@ -176,7 +175,7 @@ impl Block {
         self.shown = self.shown - count_of(was_shown) + count_of(is_shown);
     }
 
-    /// Cuts off the items from an index on, as a block with this number. Both have room for one more item then.
+    /// Splits off the items from an index on, as a block with this number. Both then have room for one more item.
     ///
     /// # Errors
     /// `AllocError` if allocation fails; then all items stay.
@@ -234,7 +233,7 @@ fn id_in(ids: &[OpId], index: usize) -> Option<OpId>
     ids.get(index).copied()
 }
 
-/// What an item counts among the shown ones: 1 where it is shown, otherwise 0.
+/// What an item adds to the count of shown ones: 1 if it is shown, otherwise 0.
 fn count_of(is_shown: bool) -> usize
     ensures { result ≡ cond is_shown 1 0 }
 {
@@ -255,7 +254,7 @@ fn count_shown(ids: &[OpId], flags: &[bool]) -> usize
     shown
 }
 
-/// The least of the ids, `None` where there is none.
+/// The least of the ids, `None` if there are none.
 fn floor_of(ids: &[OpId]) -> Option<OpId>
     ensures { IsFloor result ids.now }
 {
@@ -266,7 +265,7 @@ fn floor_of(ids: &[OpId]) -> Option<OpId>
     floor
 }
 
-/// The smaller one of a floor and an id.
+/// The smaller of a floor and an id.
 fn lower(floor: &Option<OpId>, id: &OpId) -> Option<OpId>
     ensures { (ids : List TheId) → IsFloor floor.now ids → IsFloor result (id.now ∷ ids) }
 {
@@ -311,7 +310,7 @@ fn first_smaller_in(ids: &[OpId], from: usize, id: &OpId) -> Option<usize>
     None
 }
 
-/// How many flags are counted at once as an item is sought by its index.
+/// How many flags are counted at a time when an item is sought by its index.
 const RUN: usize = 16;
 
 /// The shown id with this index, counted from 0. Counts flags in runs of 16.
@@ -350,7 +349,7 @@ fn nth_shown_among(ids: &[OpId], flags: &[bool], index: usize) -> Option<OpId>
     None
 }
 
-/// Appends the ids that are shown. Passes sixteen that aren't at once.
+/// Appends the ids that are shown. Skips runs of 16 that aren't.
 fn push_shown_of(ids: &[OpId], flags: &[bool], items: &mut Vec<OpId>) -> Result<(), AllocError>
     requires { length flags.now ≡ length ids.now }
     ensures { OnOk result (items.new.items ≡ items.old.items ++ items_where_true flags.now ids.now) }

@@ -1,4 +1,4 @@
-//! Which block has a number.
+//! Finding a block by its number.
 
 ghost use Rattle.std.specs.Prelude.{◌≡◌, ◌<◌, [], length, slice_get, OnOk};
 ghost use Rattle.std.specs.List.{All};
@@ -7,8 +7,8 @@ ghost use Rattle.columns.specs.Blocks.{AreMovedOn, IsMadeAt};
 use std::alloc::{AllocError, Global};
 use std::marker::Model;
 
-/// The index of each block of a list, by the block's number, so that an item is found without a look at other blocks. Contracts see
-/// the indices, and for how many more blocks there is room.
+/// The index of each block of a list, by the block's number, so that an item is found without looking at other blocks. Contracts see the
+/// indices, and for how many more blocks there is room.
 #[derive(Debug, Drop)]
 pub(crate) struct BlockIndices {
     by_number: Vec<usize>,
@@ -51,8 +51,8 @@ impl BlockIndices {
         self.by_number.reserve_exact(1)
     }
 
-    /// Gives the next number to a block that comes in at an index; those from there on come one later. Allocates nothing. Looks at each
-    /// block.
+    /// Gives the next number to a block that is inserted at an index; the indices from there on increase by one. Allocates nothing. Looks
+    /// at each block.
     pub fn make(&mut self, index: usize)
         requires room { 0 < self.old.room }
         requires within { All (λ p. p < length self.old.by_number) self.old.by_number }

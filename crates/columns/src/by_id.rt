@@ -1,4 +1,4 @@
-//! What stands at each id.
+//! Values by id.
 
 ghost use Rattle.std.specs.Prelude.{◌≡◌, ◌≤◌, ◌<◌, ◌+◌, ℕ, List, [], length, Some, slice_get, IsTrue, OnOk};
 ghost use Rattle.std.specs.List.{All, filter, zip};
@@ -22,10 +22,11 @@ use version::VersionVector;
 
 /// A finite map by id.
 ///
-/// Most maps hold one entry, so a single one is inline: the map is 48 bytes with a scalar, and allocates nothing. From the
-/// second on all stand one after the other in a vector, which takes a box too and stays when entries go.
+/// Most maps hold one entry, so a single one is inline: the map is 48 bytes with a scalar, and allocates nothing. From the second entry on
+/// all are in a vector behind a box, which stays when entries are removed.
 ///
-/// Contracts see the entries, rising by id, the index of each entry's replica in the table, and for how many more entries there is room.
+/// Contracts see the entries, in ascending order of id, the index of each entry's replica in the table, and for how many more entries there
+/// is room.
 #[derive(Debug, Drop)]
 pub struct ById<T> {
     held: Held<T>,
@@ -83,7 +84,7 @@ impl<T> ById<T> {
 }
 
 impl<T: Drop> ById<T> {
-    /// Makes room for one more entry. Allocates nothing before the second entry, nor where there is room.
+    /// Makes room for one more entry. Allocates nothing before the second entry, nor if there is room.
     ///
     /// # Errors
     /// `AllocError` if allocation fails.
@@ -100,9 +101,9 @@ impl<T: Drop> ById<T> {
         }
     }
 
-    /// Puts an entry where its id belongs; `index` is the index of the id's replica in the table. Replaces the id's value, if it has one.
+    /// Inserts an entry in the order of ids; `index` is the index of the id's replica in the table. Replaces the id's value, if it has one.
     ///
-    /// Allocates nothing. The first entry is one write; then a binary search and one insert into `Rings`, and for the greatest id
+    /// Allocates nothing. The first entry is one write; a later one is a binary search and one insert into `Rings`, and for the greatest id
     /// one comparison and one push.
     pub fn put(&mut self, id: OpId, index: usize, value: T)
         requires { 0 < self.old.room }
@@ -119,8 +120,8 @@ impl<T: Drop> ById<T> {
         }
     }
 
-    /// Removes the entries whose ids the vector covers. Allocates nothing. Of several entries it makes the rings contiguous, looks at each
-    /// once, and moves the entries that stay to the front.
+    /// Removes the entries whose ids the vector covers. Allocates nothing. With several entries it makes the rings contiguous, looks at
+    /// each entry once, and moves the entries that stay to the front.
     pub fn clear(&mut self, vector: &VersionVector)
         requires { All (λ index. index < length vector.now) self.old.indices }
         ensures kept { zip self.new.entries self.new.indices

@@ -1,11 +1,11 @@
-//! What a map by id holds at an id.
+//! The entry of a map by id.
 
 ghost use Rattle.std.specs.Prelude.{◌≡◌};
 ghost use Rattle.columns.specs.Entries.{id_of};
 
 use ids::{OpId, ReplicaId};
 
-/// An id, the index of its replica in the table, and what stands at it. The parts of the id stand apart, so that an entry with a small
+/// An id, the index of its replica in the table, and its value. The parts of the id are separate fields, so that an entry with a small
 /// value takes 24 bytes.
 #[derive(Debug, Drop)]
 pub struct Entry<T> {

@@ -1,4 +1,4 @@
-//! Entries by id, one after the other.
+//! Entries by id, in one list.
 
 ghost use Rattle.std.specs.Prelude.{◌≡◌, ◌↔◌, ◌≤◌, ◌<◌, ◌+◌, ◌&&◌, ℕ, List, [], length, Some, nat_le, nat_lt, slice_get, slice_index};
 ghost use Rattle.std.specs.Prelude.{slice_index_or, IsTrue, OnOk, MatchResult};
@@ -21,10 +21,11 @@ use std::cmp::Ordering;
 use std::marker::Model;
 use version::VersionVector;
 
-/// A finite map by id. Id, index and value stand together, so that what is read or put touches one place in memory, and a
+/// A finite map by id. Id, index and value are next to each other, so that a read or a put touches one place in memory, and a
 /// late insert shifts entries with one memmove.
 ///
-/// Contracts see the entries, rising by id, the index of each entry's replica in the table, and for how many more entries there is room.
+/// Contracts see the entries in ascending order of id, the index of each entry's replica in the table, and for how many more entries there
+/// is room.
 #[derive(Debug, Drop)]
 pub struct EntryList<T> {
     entries: Rings<Entry<T>>,
@@ -62,6 +63,7 @@ impl<T> EntryList<T> {
         ensures length { result ≡ length self.now.entries }
         ensures rising { IsTrue (is_sorted id_cmp self.now.entries) }
         ensures indexed { length self.now.indices ≡ length self.now.entries }
+        ensures few { result < 9_223_372_036_854_775_808 }
     {
         self.entries.len()
     }
@@ -154,7 +156,7 @@ impl<T: Drop> EntryList<T> {
         put_in(&mut self.entries, id, index, value);
     }
 
-    /// Removes the entries whose ids the vector covers. Allocates nothing, makes the rings contiguous, looks at each entry once, and moves
+    /// Removes the entries whose ids the vector covers. Allocates nothing, makes the rings contiguous, looks at each entry once, and shifts
     /// the entries that stay to the front.
     pub fn clear(&mut self, vector: &VersionVector)
         requires { All (λ index. index < length vector.now) self.old.indices }

@@ -12,7 +12,7 @@ use std::marker::Model;
 
 /// A finite map from keys to numbers, with a flag for each key.
 ///
-/// Contracts see the entries and the flags, each rising by the bytes of their keys, and for how many more keys there is room.
+/// Contracts see the entries and the flags, each in byte order of their keys, and for how many more keys there is room.
 #[derive(Debug, Drop)]
 pub struct FieldList {
     keys: SortedKeys,
@@ -20,7 +20,7 @@ pub struct FieldList {
     numbers: Vec<usize>,
     /// The flag of the key at each position in byte order.
     flags: FlagRow,
-    /// Where the last key went in or was sought. What is asked for next is often that one, or goes in behind it.
+    /// Where the last key was put or sought. The next one is often the same, or goes in behind it.
     hint: usize,
 }
 
@@ -93,8 +93,8 @@ impl FieldList {
         }
     }
 
-    /// The number of a key, as `get` has it. Until another key is put or sought, this one is found by one comparison, or goes in by
-    /// a few, unless it goes in before all others.
+    /// The number of a key, as `get`. Until another key is put or sought, finding this one takes one comparison, and putting it a few,
+    /// unless it goes in before all others.
     pub fn seek(&mut self, key: &Key) -> Option<usize>
         ensures number { result ≡ find name_cmp key.now self.old.entries }
         ensures entries { self.new.entries ≡ self.old.entries }

@@ -1,4 +1,4 @@
-//! Flags in a row, of which the next raised one is sought many at a time.
+//! Flags in a row, with a search for the next raised one that looks at many at a time.
 
 ghost use Rattle.std.specs.Prelude.{◌≡◌, ◌≤◌, ◌<◌, ◌+◌, ℕ, [], length, true, false, Some, slice_get, slice_index, slice_set, OnOk};
 ghost use Rattle.std.specs.List.{insert};
@@ -54,7 +54,7 @@ impl FlagRow {
         self.bytes.reserve_one()
     }
 
-    /// Puts a lowered flag at this position; those from there on come one later. Allocates nothing. One insert into `Rings`.
+    /// Inserts a lowered flag at this position. Allocates nothing. One insert into `Rings`.
     pub fn insert_lowered(&mut self, position: usize)
         requires within { position ≤ length self.old.flags }
         requires room { 0 < self.old.room }

@@ -1,4 +1,4 @@
-//! Where a map by id holds its entries: a single one inline, more of them one after the other.
+//! Where a map by id holds its entries: a single one inline, several in a list.
 
 ghost use Rattle.std.specs.Prelude.{◌≡◌, ◌<◌, [], IfOk, OnOk};
 
@@ -34,7 +34,7 @@ impl<T: Drop> Held<T> {
     /// Moves the single entry into a list that has room for one more.
     ///
     /// # Errors
-    /// `AllocError` if allocation fails. The entry stays, there or in the list.
+    /// `AllocError` if allocation fails. The entry is kept, inline or in the list.
     pub fn spread(&mut self, alloc: Global) -> Result<(), AllocError>
         requires { IsSingle self.old }
         ensures entries { (held_entries self.new).entries ≡ (held_entries self.old).entries }

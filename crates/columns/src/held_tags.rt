@@ -1,8 +1,9 @@
-//! Where a presence holds its entries: a single one inline, more of them one after the other.
+//! Where a presence holds its entries: a single one inline, few in a list, and many in columns by replica.
 
 ghost use Rattle.std.specs.Prelude.{◌≡◌, ◌<◌, [], IfOk, OnOk};
 
 use crate::entry::Entry;
+use crate::tag_columns::TagColumns;
 use crate::tag_list::TagList;
 use cursor::Tag;
 use std::alloc::{AllocError, Global};
@@ -14,11 +15,12 @@ pub enum HeldTags {
     Empty,
     Single(Entry<Tag>),
     Many(Box<TagList>),
+    Wide(Box<TagColumns>),
 }
 
 impl HeldTags {
-    ghost use Rattle.columns.specs.HeldTags.{IsSingleTag, held_tags};
-    ghost use Rattle.columns.specs.declared.held_tags.HeldTags.TheVariants.{Empty, Single};
+    ghost use Rattle.columns.specs.HeldTags.{IsList, IsSingleTag, held_tags};
+    ghost use Rattle.columns.specs.declared.held_tags.HeldTags.TheVariants.{Empty, Many, Single};
 
     /// Takes the single entry out.
     pub fn take_single(&mut self) -> Entry<Tag>
@@ -48,6 +50,31 @@ impl HeldTags {
         let reserved = list.reserve_one();
         *self = HeldTags::Many(list);
         reserved
+    }
+
+    /// Takes the list out.
+    fn take_list(&mut self) -> Box<TagList>
+        requires { IsList self.old }
+        ensures { self.old ≡ Many result }
+    {
+        let HeldTags::Many(list) = replace(self, HeldTags::Empty) else {
+            unreachable!()
+        };
+        list
+    }
+
+    /// Puts the list where new entries go into columns.
+    ///
+    /// # Errors
+    /// `AllocError` if allocation fails. The list stays as it is.
+    pub fn widen(&mut self, alloc: Global) -> Result<(), AllocError>
+        requires { IsList self.old }
+        ensures { held_tags self.new ≡ held_tags self.old }
+    {
+        let mut columns = Box::new(alloc, TagColumns::new(alloc))?;
+        columns.hold(Box::into_inner(self.take_list()));
+        *self = HeldTags::Wide(columns);
+        Ok(())
     }
 }
 

@@ -1,4 +1,4 @@
-//! As what something stands at an element.
+//! The kinds of value that are present at an element.
 
 ghost use Rattle.std.specs.Prelude.{◌≡◌, ◌||◌};
 ghost use Rattle.semantics.specs.Elements.{Tag as TheTag};
@@ -8,7 +8,7 @@ ghost use Rattle.columns.specs.Kinds.{has_kind};
 
 use cursor::Tag;
 
-/// As what something stands at an element. Several can be so at once, after concurrent writes.
+/// The kinds of value that are present at an element. There can be several at once, after concurrent writes.
 #[derive(Clone, Copy, Debug, PartialEq, Eq)]
 pub struct Kinds {
     pub register: bool,
@@ -17,14 +17,14 @@ pub struct Kinds {
 }
 
 impl Kinds {
-    /// Nothing stands there.
+    /// No kind: nothing is present.
     pub const NONE: Kinds = Kinds {
         register: false,
         map: false,
         list: false,
     };
 
-    /// These, and that of what stands with this tag.
+    /// These kinds, and that of this tag.
     pub fn with(self, tag: Tag) -> Kinds
         ensures { (t : TheTag) → has_kind result t ≡ (has_kind self t || is_same_tag t (tag_of tag)) }
     {

@@ -12,8 +12,8 @@ use std::marker::Model;
 
 /// The order of the items of a list, tombstones included, as RGA has it, and which of them are shown.
 ///
-/// Most elements have no list, so the items are behind a box that the first `reserve_one` makes: 16 bytes until then. They stand in
-/// blocks of at most 512, so a walk goes from block to block.
+/// Most elements have no list, so the items are behind a box that the first `reserve_one` makes: 16 bytes until then. They are in blocks of
+/// at most 512, so a walk goes from block to block.
 ///
 /// Contracts see the items in their order, those of them that are shown, and whether there is room for one more.
 #[derive(Debug, Drop)]
@@ -43,8 +43,8 @@ impl ListOrder {
         }
     }
 
-    /// Makes room for one more item. Cuts the block that the last one went into where that is full, which costs a binary search for
-    /// each item that gets another block, and a look at each block's index.
+    /// Makes room for one more item. If the block that the last one went into is full, splits it, which costs a binary search for each item
+    /// that gets another block, and a look at each block's index.
     ///
     /// # Errors
     /// `AllocError` if allocation fails.
@@ -64,11 +64,11 @@ impl ListOrder {
         }
     }
 
-    /// Puts a new item after `prev`, or after the head, past each next item with a greater id: the skipping rule of RGA. It isn't
+    /// Inserts a new item after `prev`, or after the head, past each following item with a greater id: the skipping rule of RGA. It isn't
     /// shown yet.
     ///
-    /// Allocates nothing. Finds `prev` by a binary search and a walk in one block, unless it was inserted last, and goes past a block
-    /// of greater items by a look at one id. Moves the items behind the new one in its block.
+    /// Allocates nothing. Finds `prev` by a binary search and a walk in one block, unless it was inserted last, and skips a block of
+    /// greater items after a look at one id. Shifts the items behind the new one in its block.
     pub fn insert_after(&mut self, prev: Option<OpId>, id: OpId)
         requires prev { IsTrue (has_position prev self.old.items) }
         requires id { IsFalse (has_item id self.old.items) }
@@ -83,8 +83,8 @@ impl ListOrder {
         }
     }
 
-    /// Shows an item, or hides it; another id changes nothing. A binary search and a walk in one block, unless the item was inserted
-    /// last.
+    /// Shows or hides an item; an id that isn't an item's changes nothing. A binary search and a walk in one block, unless the item was
+    /// inserted last.
     pub fn set_shown(&mut self, id: &OpId, shown: bool)
         ensures items { self.new.items ≡ self.old.items }
         ensures visible { (f : TheId → Bool) → self.old.visible ≡ filter f self.old.items

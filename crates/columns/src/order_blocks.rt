@@ -10,25 +10,25 @@ ghost use Rattle.columns.specs.Blocks.{AreBlocks, AreMoved, AreIndexed, IsSameLi
 
 use crate::block::Block;
 use crate::block_indices::BlockIndices;
-use crate::numbers::Numbers;
+use crate::homes::Homes;
 use crate::walks::{Position, behind, find, first_shown, goes_to, nth_shown, shown_items};
 use ids::OpId;
 use std::alloc::{AllocError, Global};
 use std::marker::Model;
 
-/// How many items a block has at most, once there is room for one more.
+/// The most items that a block has once there is room for one more.
 const MOST: usize = 512;
 
-/// The order of the items of a list, and which of them are shown.
+/// The order of a list's items, and which of them are shown.
 ///
-/// Neighbouring items stand in a block of at most 512, so that a walk goes from block to block. Each item's home is the number of its
+/// Neighbouring items share a block of at most 512, so that a walk goes from block to block. Each item's home is the number of its
 /// block. Contracts see the items in their order, those of them that are shown, and whether there is room for one more.
 #[derive(Debug, Drop)]
 pub(crate) struct OrderBlocks {
     /// In list order.
     blocks: Vec<Block>,
     /// The number of each item's block.
-    homes: Numbers,
+    homes: Homes,
     /// The index of each block, by its number.
     indices: BlockIndices,
     /// Where the last item went in. No other block is full.
@@ -59,14 +59,14 @@ impl OrderBlocks {
     {
         OrderBlocks {
             blocks: Vec::new(alloc),
-            homes: Numbers::new(alloc),
+            homes: Homes::new(alloc),
             indices: BlockIndices::new(alloc),
             last: Position { block: 0, index: 0 },
         }
     }
 
-    /// Makes room for one more item. Cuts the block that the last one went into where that is full, which costs a binary search for
-    /// each item that gets another block, and a look at each block's index.
+    /// Makes room for one more item. If the block that the last one went into is full, it is cut, which costs a binary search for each
+    /// item that gets another block, and a look at each block's index.
     ///
     /// # Errors
     /// `AllocError` if allocation fails.
@@ -171,7 +171,7 @@ impl OrderBlocks {
 /// `AllocError` if allocation fails; then all stays.
 fn make_room(
     blocks: &mut Vec<Block>,
-    homes: &mut Numbers,
+    homes: &mut Homes,
     indices: &mut BlockIndices,
     last: Position,
 ) -> Result<(), AllocError>
@@ -235,7 +235,7 @@ fn reserve_in(blocks: &mut Vec<Block>, block: usize) -> Result<(), AllocError>
 /// `AllocError` if allocation fails; then all stays.
 fn cut(
     blocks: &mut Vec<Block>,
-    homes: &mut Numbers,
+    homes: &mut Homes,
     indices: &mut BlockIndices,
     last: Position,
 ) -> Result<(), AllocError>
@@ -261,7 +261,7 @@ fn cut(
 }
 
 /// Gives the items of a block its number as their home. A binary search for each.
-fn move_home(homes: &mut Numbers, block: &Block)
+fn move_home(homes: &mut Homes, block: &Block)
     requires { (a : TheId) → has_item a block.now.items ≡ true → IsSome (find id_cmp a homes.old.entries) }
     ensures moved { AreMoved block.now.items block.now.number homes.old.entries homes.new.entries }
     ensures room { homes.new.room ≡ homes.old.room }

@@ -1,10 +1,10 @@
-//! The first eight bytes of a key as a number, which decide most comparisons without a read of the key.
+//! The first eight bytes of a key as a number, which decides most comparisons without a read of the key.
 
 ghost use Rattle.std.specs.Prelude.{◌≡◌, slice_index_or};
 ghost use Rattle.columns.specs.Prefix.{AreBytes, first_bytes};
 
-/// Returns the first eight bytes of a name, the first of them the highest; a byte behind the end is 0. Names whose numbers differ are
-/// in the order of these numbers. Names with the same number may differ.
+/// Returns the first eight bytes of a name as a number, the first byte the highest; a byte past the end is 0. Names whose numbers differ
+/// are in the order of these numbers. Names with the same number may differ.
 pub fn prefix_of(name: &[u8]) -> u64
     ensures prefix { result ≡ first_bytes 8 name.now }
     ensures bytes { AreBytes name.now }
@@ -15,7 +15,7 @@ pub fn prefix_of(name: &[u8]) -> u64
     }
 }
 
-/// The same of any name, byte by byte.
+/// The same for any name, byte by byte.
 fn short_prefix_of(name: &[u8]) -> u64
     ensures prefix { result ≡ first_bytes 8 name.now }
     ensures bytes { AreBytes name.now }
@@ -27,7 +27,7 @@ fn short_prefix_of(name: &[u8]) -> u64
     prefix
 }
 
-/// Returns the byte at a position, or 0 behind the end.
+/// Returns the byte at a position, or 0 past the end.
 fn byte_at(name: &[u8], position: usize) -> u8
     ensures { result ≡ slice_index_or name.now position 0 }
 {

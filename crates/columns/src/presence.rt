@@ -1,6 +1,6 @@
 //! The presence of an element.
 
-ghost use Rattle.std.specs.Prelude.{◌≡◌, ◌≤◌, ◌<◌, ◌+◌, ℕ, List, [], length, Some, slice_get, IsTrue, OnOk};
+ghost use Rattle.std.specs.Prelude.{◌≡◌, ◌≤◌, ◌<◌, ◌+◌, ℕ, List, [], length, Some, slice_get, IsTrue, IfOk, OnOk};
 ghost use Rattle.std.specs.List.{All, filter, zip};
 ghost use Rattle.std.specs.FinMap.{put, is_sorted};
 ghost use Rattle.ids.specs.Members.{AreDistinct};
@@ -16,18 +16,20 @@ ghost use Rattle.columns.specs.Kinds.{AreKinds};
 use crate::entry::Entry;
 use crate::held_tags::HeldTags;
 use crate::kinds::Kinds;
+use crate::tag_columns::FEW;
 use cursor::Tag;
 use ids::OpId;
 use std::alloc::{AllocError, Global};
 use std::marker::Model;
 use version::VersionVector;
 
-/// The presence of an element: the ids that keep it visible, each with its tag, and as what something stands there.
+/// The presence of an element: the ids that keep it visible, each with its tag, and the kinds of value that are present.
 ///
-/// As in a register a single entry is inline, and from the second on all stand in a box. A single entry's tag is all that stands there, and
-/// what stands where there are more is noted in their box, so a presence is 32 bytes.
+/// As in a register, a single entry is inline, and two or more are in a box, which also has the kinds of value; so a presence is 32 bytes.
+/// From the 512th entry on, new ids go into columns by replica, of eight bytes an id.
 ///
-/// Contracts see the entries, rising by id, the index of each entry's replica in the table, and for how many more entries there is room.
+/// Contracts see the entries in ascending order of id, the index of each entry's replica in the table, and for how many more entries there
+/// is room.
 #[derive(Debug, Drop)]
 pub struct Presence {
     held: HeldTags,
@@ -68,22 +70,27 @@ impl Presence {
             HeldTags::Empty => 0,
             HeldTags::Single(_) => 1,
             HeldTags::Many(list) => list.len(),
+            HeldTags::Wide(columns) => columns.len(),
         }
     }
 
-    /// The id at a position, and its tag.
-    pub fn at(&self, position: usize) -> (OpId, &Tag)
-        requires { position < length self.now.entries }
-        ensures { slice_get self.now.entries position ≡ Some (result.0, result.1.now) }
+    /// A copy of the entries: each id with its tag, in ascending order. Where k replicas have columns, it looks at each entry about log2 k
+    /// times.
+    ///
+    /// # Errors
+    /// `AllocError` if allocation fails.
+    pub fn copy(&self, alloc: Global) -> Result<Vec<(OpId, Tag)>, AllocError>
+        ensures { IfOk result (λ v. v.items ≡ self.now.entries) }
     {
         match &self.held {
-            HeldTags::Empty => unreachable!(),
-            HeldTags::Single(entry) => (entry.id(), &entry.value),
-            HeldTags::Many(list) => list.at(position),
+            HeldTags::Empty => Ok(Vec::new(alloc)),
+            HeldTags::Single(entry) => Ok(vec![in alloc; (entry.id(), entry.value)]?),
+            HeldTags::Many(list) => list.copy(alloc),
+            HeldTags::Wide(columns) => columns.copy(alloc),
         }
     }
 
-    /// As what something stands there. Looks at one entry at most.
+    /// The kinds of value that are present. Looks at one entry at most, or at each column.
     pub fn kinds(&self) -> Kinds
         ensures { AreKinds result self.now.entries }
     {
@@ -91,10 +98,12 @@ impl Presence {
             HeldTags::Empty => Kinds::NONE,
             HeldTags::Single(entry) => Kinds::NONE.with(entry.value),
             HeldTags::Many(list) => list.kinds(),
+            HeldTags::Wide(columns) => columns.kinds(),
         }
     }
 
-    /// Makes room for one more entry. Allocates nothing before the second entry, nor where there is room.
+    /// Makes room for one more entry. Allocates nothing before the second entry, nor if there is room, except for a column if the last
+    /// entry wanted one or filled its own.
     ///
     /// # Errors
     /// `AllocError` if allocation fails.
@@ -107,14 +116,22 @@ impl Presence {
         match &mut self.held {
             HeldTags::Empty => Ok(()),
             HeldTags::Single(_) => self.held.spread(self.alloc),
-            HeldTags::Many(list) => list.reserve_one(),
+            HeldTags::Many(list) => {
+                list.reserve_one()?;
+                if list.len() < FEW {
+                    return Ok(());
+                }
+                self.held.widen(self.alloc)
+            }
+            HeldTags::Wide(columns) => columns.reserve_one(),
         }
     }
 
     /// Puts an entry where its id belongs; `index` is the index of the id's replica in the table. Replaces the id's tag, if it has one.
     ///
-    /// Allocates nothing. The first entry is one write; then a binary search and one insert into `Rings`, and for the greatest id
-    /// one comparison and one push. Looks at each entry where a tag is replaced, which no write of a document does.
+    /// Allocates nothing. The first entry is one write. Later ones cost a binary search and an insert into `Rings`; the greatest id one
+    /// comparison and one push. With columns, the greatest id of a replica is one comparison and one push, whatever ids others have. Looks
+    /// at each entry of the list if a tag is replaced, which no write of a document does.
     pub fn put(&mut self, id: OpId, index: usize, tag: Tag)
         requires { 0 < self.old.room }
         ensures entries { self.new.entries ≡ put id_cmp id tag self.old.entries }
@@ -127,11 +144,13 @@ impl Presence {
             HeldTags::Empty => self.held = HeldTags::Single(Entry::new(id, index, tag)),
             HeldTags::Single(_) => unreachable!(),
             HeldTags::Many(list) => list.put(id, index, tag),
+            HeldTags::Wide(columns) => columns.put(id, index, tag),
         }
     }
 
-    /// Removes the entries whose ids the vector covers. Allocates nothing. Of several entries it makes the rings contiguous, looks at each
-    /// once, moves the entries that stay to the front, and looks at these once more where others went.
+    /// Removes the entries whose ids the vector covers. Allocates nothing. With two or more entries it makes the rings of the list
+    /// contiguous, looks at each entry of the list once, shifts those that stay to the front, and looks at these again if others went. A
+    /// column costs a binary search and what goes.
     pub fn clear(&mut self, vector: &VersionVector)
         requires { All (λ index. index < length vector.now) self.old.indices }
         ensures kept { zip self.new.entries self.new.indices
@@ -151,6 +170,7 @@ impl Presence {
                 }
             }
             HeldTags::Many(list) => list.clear(vector),
+            HeldTags::Wide(columns) => columns.clear(vector),
         }
     }
 }

@@ -17,11 +17,11 @@ use std::alloc::{AllocError, Global};
 use std::cmp::Ordering;
 use std::marker::Model;
 
-/// Distinct keys in byte order. What belongs to each key is in columns of the caller's.
+/// Distinct keys in byte order. What belongs to each key is in the caller's own columns.
 ///
-/// A key stays where it was put, and only its number and its prefix move: its first eight bytes, beside its number, so that a search
-/// reads a key itself only where these tie (databases call them abbreviated keys). Contracts see the keys, the number of each, and
-/// for how many more there is room.
+/// A key stays where it was put, and only its number and its prefix move. The prefix is its first eight bytes, kept with its number, so
+/// that a search reads a key itself only if the prefixes tie (databases call them abbreviated keys). Contracts see the keys, the number of
+/// each, and for how many more there is room.
 #[derive(Debug, Drop)]
 pub struct SortedKeys {
     /// In the order in which they were put.
@@ -32,7 +32,7 @@ pub struct SortedKeys {
     prefixes: Rings<u64>,
 }
 
-/// The positions, from `low` on and below `high`, among which a key may stand, and at `high` the last one where it may belong.
+/// The positions from `low` on and below `high`, at which a key may stand; if it isn't there, `high` is the last one where it may belong.
 #[derive(Clone, Copy)]
 struct Span {
     low: usize,
@@ -108,8 +108,8 @@ impl SortedKeys {
         self.prefixes.reserve_one()
     }
 
-    /// The position of a key, or `Err` with the one where it would be inserted, as `find_with_hint` has it.
-    // Not inlined, and what it calls is: so nothing is counted where nobody reads the count.
+    /// The position of a key, or `Err` with the one where it would be inserted, as `find_with_hint`.
+    // Not inlined, while what it calls is: so nothing is counted, as nobody reads the count.
     #[inline(never)]
     pub fn find(&self, key: &Key, hint: usize) -> Result<usize, usize>
         ensures { Finds self.now.keys key.now result }
@@ -119,9 +119,9 @@ impl SortedKeys {
 
     /// The position of a key, or `Err` with the one where it would be inserted. Looks first at the key at `hint`, if there is one.
     ///
-    /// Compares the key with at most as many others as their number has binary digits, and one more: with at most k + 1 of fewer than
-    /// 2 to the k. One that stands at `hint` is compared with that one alone; one that goes in behind it with few, mostly. Each
-    /// comparison adds 1 to `probes`.
+    /// Compares the key with at most as many others as their number has binary digits, and one more: with fewer than 2 to the k keys, at
+    /// most k + 1. A key that stands at `hint` takes one comparison; one that goes in behind it mostly takes few. Each comparison adds
+    /// 1 to `probes`.
     #[inline(always)]
     pub fn find_with_hint(&self, key: &Key, hint: usize, probes: &mut u64) -> Result<usize, usize>
         requires { probes.old ≤ 18446744073709551550 }
@@ -132,7 +132,7 @@ impl SortedKeys {
         ensures counted { probes.old ≤ probes.new }
     {
         let prefix = prefix_of(key.as_str().as_bytes());
-        // In a register until the search ends.
+        // Kept in a register until the search ends.
         let mut count = *probes;
         let found = match self.narrow(key, prefix, hint, &mut count) {
             Ok(position) => Ok(position),
@@ -142,8 +142,8 @@ impl SortedKeys {
         found
     }
 
-    /// Compares a key, of which this is the prefix, with the one at `hint`, if there is one: the position of the key if it stands there,
-    /// else `Err` with the positions among which it may stand or belongs.
+    /// Compares a key, of which this is the prefix, with the one at `hint`, if there is one. Returns the position of the key if it stands
+    /// there, else `Err` with the positions among which it may stand or belong.
     #[inline(always)]
     fn narrow(&self, key: &Key, prefix: u64, hint: usize, probes: &mut u64) -> Result<usize, Span>
         requires prefix { prefix ≡ first_bytes 8 key.now }
@@ -177,8 +177,8 @@ impl SortedKeys {
         }
     }
 
-    /// Searches a span for a key of which this is the prefix. Each comparison halves how many keys there may be from `low` on, and looks
-    /// as near to `low` as that allows.
+    /// Searches a span for a key of which this is the prefix. Each comparison halves the bound on how many keys there are from `low` on,
+    /// and looks as near to `low` as that allows.
     // Inlined at its only call, so that what it counts stays in a register.
     #[inline(always)]
     fn search(&self, key: &Key, prefix: u64, span: Span, probes: &mut u64) -> Result<usize, usize>
@@ -225,7 +225,7 @@ impl SortedKeys {
     }
 
     /// Compares a key, of which this is the prefix, with the one at a position.
-    // Inlined, since a search is little else; the prefixes decide most comparisons.
+    // Inlined, since a search does little else; the prefixes decide most comparisons.
     #[inline(always)]
     fn compare(&self, key: &Key, prefix: u64, position: usize) -> Ordering
         requires prefix { prefix ≡ first_bytes 8 key.now }

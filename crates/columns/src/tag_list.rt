@@ -1,6 +1,6 @@
-//! Tags by id, one after the other.
+//! Tags by id, in one list.
 
-ghost use Rattle.std.specs.Prelude.{◌≡◌, ◌≤◌, ◌<◌, ◌+◌, ℕ, List, [], length, Some, slice_get, IsTrue, OnOk};
+ghost use Rattle.std.specs.Prelude.{◌≡◌, ◌≤◌, ◌<◌, ◌+◌, ℕ, List, [], length, Some, slice_get, IsTrue, IfOk, OnOk};
 ghost use Rattle.std.specs.List.{All, filter, zip};
 ghost use Rattle.std.specs.FinMap.{put, is_sorted};
 ghost use Rattle.ids.specs.Members.{AreDistinct};
@@ -21,7 +21,7 @@ use std::alloc::{AllocError, Global};
 use std::marker::Model;
 use version::VersionVector;
 
-/// Tags by id, and as what something stands there, so that this is known without a look at each entry.
+/// Tags by id, and the kinds of value that are present, which are then known without a look at each entry.
 ///
 /// Contracts see what those of `EntryList` see.
 #[derive(Debug, Drop)]
@@ -58,6 +58,7 @@ impl TagList {
         ensures length { result ≡ length self.now.entries }
         ensures rising { IsTrue (is_sorted id_cmp self.now.entries) }
         ensures indexed { length self.now.indices ≡ length self.now.entries }
+        ensures few { result < 9_223_372_036_854_775_808 }
     {
         self.entries.len()
     }
@@ -70,7 +71,22 @@ impl TagList {
         self.entries.at(position)
     }
 
-    /// As what something stands there.
+    /// A copy of the entries.
+    ///
+    /// # Errors
+    /// `AllocError` if allocation fails.
+    pub fn copy(&self, alloc: Global) -> Result<Vec<(OpId, Tag)>, AllocError>
+        ensures { IfOk result (λ v. v.items ≡ self.now.entries) }
+    {
+        let mut tags = Vec::with_capacity(alloc, self.len())?;
+        for position in 0..self.len() {
+            let (id, tag) = self.at(position);
+            tags.push((id, *tag))?;
+        }
+        Ok(tags)
+    }
+
+    /// The kinds of value that are present.
     pub fn kinds(&self) -> Kinds
         ensures { AreKinds result self.now.entries }
     {
@@ -92,7 +108,7 @@ impl TagList {
 
     /// Puts an entry where its id belongs; `index` is the index of the id's replica in the table. Replaces the id's tag, if it has one.
     ///
-    /// Costs what `put` of `EntryList` costs. Looks at each entry where a tag is replaced.
+    /// Costs what `put` of `EntryList` costs. Looks at each entry if a tag is replaced.
     pub fn put(&mut self, id: OpId, index: usize, tag: Tag)
         requires { 0 < self.old.room }
         ensures entries { self.new.entries ≡ put id_cmp id tag self.old.entries }
@@ -103,7 +119,7 @@ impl TagList {
     {
         let count = self.entries.len();
         self.entries.put(id, index, tag);
-        // Where a tag was replaced, it may have been the only one of its kind.
+        // A replaced tag may have been the only one of its kind.
         self.kinds = if self.entries.len() > count {
             self.kinds.with(tag)
         } else {
@@ -111,8 +127,8 @@ impl TagList {
         };
     }
 
-    /// Removes the entries whose ids the vector covers. Costs what `clear` of `EntryList` costs, and where entries went a look at each that
-    /// stays.
+    /// Removes the entries whose ids the vector covers. Costs what `clear` of `EntryList` costs and, if entries went, a look at each of the
+    /// others.
     pub fn clear(&mut self, vector: &VersionVector)
         requires { All (λ index. index < length vector.now) self.old.indices }
         ensures kept { zip self.new.entries self.new.indices
@@ -132,7 +148,7 @@ impl TagList {
     }
 }
 
-/// As what something stands at these ids. Looks at each entry.
+/// The kinds of value that are present at these ids. Looks at each entry.
 fn kinds_of(entries: &EntryList<Tag>) -> Kinds
     ensures { AreKinds result entries.now.entries }
 {

@@ -7,7 +7,7 @@ ghost use Rattle.columns.specs.Blocks.{joined_shown};
 
 use crate::block::Block;
 use crate::block_indices::BlockIndices;
-use crate::numbers::Numbers;
+use crate::homes::Homes;
 use ids::OpId;
 use std::alloc::{AllocError, Global};
 
@@ -18,7 +18,7 @@ pub(crate) struct Position {
     pub index: usize,
 }
 
-/// The position of an item whose home is this block's number. Looks at the item of that block at `hint`, and then at the others.
+/// The position of an item whose home is this block's number. Looks at the block's item at `hint` first, and then at the others.
 pub(crate) fn find(
     blocks: &[Block],
     indices: &BlockIndices,
@@ -36,11 +36,11 @@ pub(crate) fn find(
     Some(Position { block, index })
 }
 
-/// The position behind an item, or behind the head, where what goes in after it comes in. Looks for the item as `find` does.
+/// The position after an item, or after the head, at which an insert after it begins. Looks for the item as `find` does.
 pub(crate) fn behind(
     blocks: &[Block],
     indices: &BlockIndices,
-    homes: &Numbers,
+    homes: &Homes,
     item: Option<OpId>,
     hint: usize,
 ) -> Option<Position>
@@ -61,7 +61,7 @@ pub(crate) fn behind(
     })
 }
 
-/// The position of a new item that comes in at another one: past each item that isn't smaller. Looks at one id of a block whose items
+/// The position of a new item whose insert begins at this one: past each item that isn't smaller. Looks at one id of a block whose items
 /// are all greater.
 pub(crate) fn goes_to(blocks: &[Block], from: Position, id: &OpId) -> Position
     requires inside { from.block < length blocks.now }

@@ -1,4 +1,4 @@
-//! Answers: by its type each is legal for the submission that it names, in the history of its notice.
+//! Answers: by its type, each is legal for the submission that it names, in the history of its notice.
 
 ghost use Rattle.std.specs.Prelude.{◌≡◌, Some, None, MatchOption};
 ghost use Rattle.semantics.specs.PeerAnswers.{IsAnswerWith};
@@ -14,9 +14,9 @@ pub struct Given<N: EngineName> {
     pub notice: Notice<N>,
 }
 
-/// What a client submitted and, once it is filled in, what it is answered. Contracts see the submission, the reply and the history; an
-/// answer that isn't legal for its submission can't be made, nor a refusal of what stands in that history. The submission is shared with
-/// the client that waits for the answer.
+/// What a client submitted and, once it is filled in, the reply to it. Contracts see the submission, the reply and the history. It is
+/// impossible to make an answer that isn't legal for its submission, or a refusal of a submission that is in that history. The submission
+/// is shared with the client that waits for the answer.
 #[derive(Drop)]
 pub struct Answer<N: EngineName> {
     submission: Shared<Submission>,
@@ -56,7 +56,7 @@ impl<N: EngineName> Answer<N> {
         }
     }
 
-    /// The submission that is answered.
+    /// The submission to which this is the answer.
     pub fn submission(&self) -> &Submission
         ensures { result.now ≡ self.now.submission }
     {

@@ -20,7 +20,7 @@ pub struct Envelope<N: EngineName> {
 }
 
 impl<N: EngineName> Envelope<N> {
-    /// The envelope of a submission, and the cell where its answer will be. Two allocations.
+    /// The envelope of a submission, and the cell for its answer. Two allocations.
     ///
     /// # Errors
     /// `AllocError` if allocation fails.
@@ -49,7 +49,7 @@ impl<N: EngineName> Envelope<N> {
         self.answer.submission()
     }
 
-    /// The submission with the reply to it, once it is handled.
+    /// The submission with its reply, once it is handled.
     pub fn replied(self, reply: Reply) -> Handled<N>
         ensures { (result.submitted ≡ submitted_of self.answer.value.submission) × (result.reply ≡ reply_of reply) }
     {
@@ -60,7 +60,7 @@ impl<N: EngineName> Envelope<N> {
     }
 }
 
-/// A submission that was handled, and waits for the publish. Its reply is that of its handling: nothing changes it. Contracts see the
+/// A submission that was handled and waits for the publish. Its reply is the one from its handling: nothing changes it. Contracts see the
 /// submission and the reply.
 #[derive(Drop)]
 pub struct Handled<N: EngineName> {
@@ -82,11 +82,11 @@ impl<N: EngineName> Model for Handled<N> {
 }
 
 impl<N: EngineName> Handled<N> {
-    /// Answers: sets the cell to the reply with a notice of the history that was published with it. Returns a note of the cell, which
-    /// knows that it holds this answer for good. Allocates nothing.
+    /// Answers: sets the cell to the reply, with a notice of the history that was published with it. Returns a note of the cell, which
+    /// knows that the cell holds this answer for good. Allocates nothing.
     ///
     /// # Errors
-    /// The answer, if the cell held one before. Nothing but this call sets it, so that never happens; no contract says so.
+    /// The answer, if the cell already held one. Only this call sets it, so that never happens, but no contract says so.
     pub fn tell(self, notice: Notice<N>) -> Result<Note<Answer<N>>, Box<Answer<N>>>
         requires { IsAnswerWith N.own N.table notice self.submitted self.reply }
         ensures { MatchResult result (λ note. (a : AnswerCell) × (note.known ≡ Some a) × Tells N.table self notice a)

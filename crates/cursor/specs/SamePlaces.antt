@@ -1,4 +1,4 @@
--- When two keys of paths, two places, two steps or two expressions are one, and that these tests are equalities.
+-- When two keys of paths, two places, two steps or two expressions are the same, and that these tests are equalities.
 use Rattle.std.specs.Prelude.{◌≡◌, ◌==◌, Bool, true, false, List}
 use Rattle.std.proofs.Common.{refl, sym, ap, true≢false}
 use Rattle.std.specs.Bool.{Decides}

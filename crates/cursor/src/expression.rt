@@ -21,7 +21,7 @@ pub enum Step {
     Get(Key),
     /// Into the list here: to its head at 0, to its first visible item at 1, and so on.
     Idx(u64),
-    /// Into the list here: to the item with this id, also where the list shows it no more.
+    /// Into the list here: to the item with this id, even if the list no longer shows it.
     Item(OpId),
 }
 
@@ -111,8 +111,8 @@ impl Expr {
         Ok(self)
     }
 
-    /// One step further: into the list there, to the item with this id, which need not be shown any more. It leads there after any
-    /// other edit, where an index may come to mean another item.
+    /// One step further: into the list there, to the item with this id, which need no longer be shown. It leads there after any other edit,
+    /// whereas an index may come to mean another item.
     ///
     /// # Errors
     /// `AllocError` if allocation fails.

@@ -11,5 +11,5 @@ pub use hop::{Hop, Last};
 pub use place::{MOST_KEYS, Place};
 pub use tag::Tag;
 
-// Handed on from the crates below, for users of this one.
+// Re-exported from the crates below, for users of this one.
 pub use value::{Key, MOST_KEY_BYTES, Scalar, Text, Val};

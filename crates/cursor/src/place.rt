@@ -127,7 +127,7 @@ impl Place {
         &self.hops
     }
 
-    /// The last key of the way here, or what stands for it at the root and at a head.
+    /// The last key of the path, or what takes its place at the root and at a head.
     pub fn last(&self) -> Last<'_>
         ensures { last_key result ≡ last_of self.now }
     {

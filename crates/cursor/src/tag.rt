@@ -1,4 +1,4 @@
-//! The types of what stands in a document.
+//! The types of the elements of a document.
 
 ghost use Rattle.std.specs.Prelude.{◌≡◌};
 ghost use Rattle.semantics.specs.Elements.{tag_of as tag_of_value};

@@ -12,7 +12,7 @@ fn list(alloc: Global) -> Result<Expr, Refusal> {
     Expr::root(alloc).get(alloc, "entries")
 }
 
-/// Adds an entry behind the last one, and returns once it is saved.
+/// Adds an entry after the last one, and returns once it is saved.
 pub fn add<N: EngineName, S: Store>(
     rt: &impl Wait,
     alloc: Global,
@@ -22,7 +22,7 @@ pub fn add<N: EngineName, S: Store>(
     let text = Val::text(alloc, text)?;
     let place = match ids(alloc, notebook)?.last() {
         Some(last) => list(alloc)?.item(*last)?,
-        // The head of the list, behind which its first item comes.
+        // The head of the list, after which its first item comes.
         None => list(alloc)?.idx(0)?,
     };
     notebook.write(rt, alloc, Command::InsertAfter(place, text))
@@ -53,7 +53,7 @@ pub fn all<N: EngineName, S: Store>(
     Ok(texts)
 }
 
-/// The text of an entry. Where it was written over by several at once, the one with the greatest id.
+/// The text of an entry. If several replicas overwrote it concurrently, the one with the greatest id.
 fn entry<N: EngineName, S: Store>(
     alloc: Global,
     notebook: &mut Notebook<N, S>,

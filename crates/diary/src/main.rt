@@ -1,6 +1,6 @@
-//! A diary in a file: `diary FILE [TEXT]` adds the text as an entry, says `saved`, and shows all entries, one a line.
+//! A diary in a file: `diary FILE [TEXT]` adds the text as an entry, says `saved`, and shows all entries, one per line.
 //!
-//! What it shows comes from the file: the notebook that wrote is ended by then, and another one is opened.
+//! What it shows comes from the file: the notebook that wrote has ended by then, and another one is opened.
 #![tactic(auto)]
 
 mod entries;
@@ -23,7 +23,7 @@ fn main(rt: HostRuntime) -> Result<()> {
     }
 }
 
-/// Prints the entries, one a line.
+/// Prints the entries, one per line.
 fn print(rt: &impl Print, entries: Vec<String>) -> Result<()> {
     for entry in &entries {
         println!(rt; "{entry}")?;

@@ -14,7 +14,7 @@ use std::marker::Brand;
 use std::random::RandomSource;
 use std::sync::Wait;
 
-/// Opens the diary in this file, adds the text where there is one, and returns all entries. Each is saved.
+/// Opens the diary in this file, adds the text if there is one, and returns all entries, all of which are saved.
 pub fn visit<R: Files<File = File> + RandomSource + Wait>(
     rt: &R,
     alloc: Global,
@@ -37,7 +37,7 @@ fn visit_store<R: RandomSource + Wait, S: Store + Drop>(
         Ok(journal) => journal,
         Err(unopened) => return Err(unopened.why),
     };
-    // The number stands in the file. Where the file has none, none was ever used.
+    // The number is in the file. If the file has none, none was ever used.
     let own = match journal.own(alloc)? {
         Some(own) => own,
         None => draw_number(rt)?,
@@ -62,7 +62,7 @@ fn visit_notebook<N: EngineName, R: Wait, S: Store + Drop>(
         Ok(notebook) => {
             let mut notebook = notebook;
             let entries = add_and_read(rt, alloc, &mut notebook, text);
-            // Its engine is closed on each way out; the file is closed with the store.
+            // Its engine is closed on every path; the file is closed with the store.
             let _store = notebook.end(rt);
             entries
         }

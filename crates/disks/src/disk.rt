@@ -1,4 +1,4 @@
-//! A store that knows which of its bytes would survive a loss of power, and that fails where it is told to. It says so in its contract.
+//! A store that knows which of its bytes would survive a loss of power, and that fails on request. It says so in its contract.
 
 ghost use Rattle.std.specs.Prelude.{◌≡◌};
 
@@ -6,7 +6,7 @@ use std::alloc::{AllocError, Global};
 use std::io::ErrorKind;
 use store::{Store, StoreFailed};
 
-/// What every failed call of a disk says.
+/// The error of every failed call of a disk.
 pub const FAILED: StoreFailed = StoreFailed {
     kind: ErrorKind::Other,
 };
@@ -24,7 +24,7 @@ pub enum Breaks {
 /// A disk of bytes.
 #[derive(Drop)]
 pub struct Disk {
-    /// What a read gives.
+    /// What a read returns.
     bytes: Vec<u8>,
     /// What survives a loss of power.
     synced: Vec<u8>,
@@ -56,12 +56,12 @@ impl Disk {
         self.calls
     }
 
-    /// How many bytes a loss of power may leave or take: those by which what a read gives and what survives differ.
+    /// How many bytes a loss of power may leave or take: those by which what a read returns is longer or shorter than what survives.
     pub fn loose(&self) -> usize {
         self.bytes.len().abs_diff(self.synced.len())
     }
 
-    /// What a loss of power leaves, with this many of the loose bytes, on a disk that works.
+    /// What a loss of power leaves, with this many of those bytes, on a disk that works.
     pub fn left(&self, alloc: Global, loose: usize) -> Result<Disk, AllocError> {
         let (shorter, longer) = if self.bytes.len() < self.synced.len() {
             (&self.bytes, &self.synced)

@@ -1,4 +1,4 @@
-//! A disk of bytes for tests: it knows what would survive a loss of power, and fails where it is told to. No program uses it.
+//! A disk of bytes for tests: it knows what would survive a loss of power, and fails on request. No program uses it.
 #![tactic(auto)]
 
 mod disk;

@@ -12,7 +12,7 @@ use Rattle.semantics.specs.Vectors.{Vector, IsCanonical, at}
 use Rattle.semantics.specs.Faults.{is_of_nobody}
 use Rattle.oplog.proofs.KnownMembers.{at_among}
 
--- what is named of a replica stands in the vector
+-- what is named of a replica is in the vector
 pub among_at : (v : Vector) (p : ℕ) → IsCanonical v → at v p ≢ 0 → IsAmong (id_at (at v p) p) v
 among_at [] p c n = absurd (n refl)
 among_at (b ∷ v) p c n = at_test (among_at v p c.2) (b.replica == p) refl
@@ -53,7 +53,7 @@ any_same : (f g : OpId → Bool) (v : Vector) → ((a : OpId) → IsAmong a v �
 any_same f g [] each = refl
 any_same f g (a ∷ v) each = λ i. each a (inl refl) i || any_same f g v (λ b m. each b (inr m)) i
 
--- a counter is that of no operation, where the id that it is part of is
+-- whether some id of the vector belongs to no operation, tested by its replica's counter
 pub any_of_nobody : (H : List Operation) (v : Vector) → IsCanonical v
     → list_any (λ a. not (has_id H a)) v ≡ list_any (λ a. is_of_nobody H v a.replica) v
 any_of_nobody H v c = any_same (λ a. not (has_id H a)) (λ a. is_of_nobody H v a.replica) v

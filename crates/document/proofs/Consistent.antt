@@ -52,7 +52,7 @@ few_joined p ps fits few = by (is_member ps p) refl
     by true e = few
     by false e = (let room = has_room ps p e fits in let l = length-append ps (p ∷ []) in omega (arith, room, l))
 
--- the table that the entry's replica joined, the vector after it was raised to the entry's id, and the tree after its operation was applied
+-- the table once the entry's replica has joined it, the vector raised to the entry's id, and the tree with its operation applied
 pub kept_next : (table grown : List ℕ) (v next : Vector) (G : List Entry) (e : Entry) (a : OpId) (t u : Planted) → (stamped_in e).id ≡ a
     → IsConsistent table v G t
     → MayFollowEntries G e
@@ -109,7 +109,7 @@ module _ (table : List ℕ) (v : Vector) (G : List Entry) (t : Planted) (h : IsC
       let w = length-applied G in
       omega (arith, greatest_applied, n, w)
 
-  -- the replicas that an operation names which may follow
+  -- the replicas that an operation names, if it may follow
   pub names_known_there : (s : Stamped) → IsCanonical s.vector → MayFollow (applied G) s → names_only t.table s.vector ≡ true
   names_known_there s canonical may = ap (λ ps. names_only ps s.vector) h.fits
       ∙ names_known table G s.vector h.members canonical may.attained

@@ -1,4 +1,4 @@
--- What follows an entry history, and has room in the table, passes all tests of a received operation.
+-- What follows an entry history, where the table has room for it, passes all tests of a received operation.
 use Rattle.std.proofs.Common.{◌≡◌, ℕ, ◌<◌, true, false, ◌&&◌, List, ◌∷◌, length, Option, None, is_none, ap, ◌∙◌, subst, arith}
 use Rattle.std.specs.Prelude.{IsFalse}
 use Rattle.std.proofs.lemmas.Bool.{and_from, leb-false}
@@ -31,7 +31,7 @@ none_alone G o l room may =
     let n : length (applied G) < 1048576 = let few = not_full G room in let same = length-applied G in omega arith in
     no_fault_alone (applied G) (stamped_of o) (legal (stamped_entries G) l) n may
 
--- what follows an entry history, and has room in the table, is lawful there
+-- what follows an entry history, where the table has room for it, is lawful there
 pub lawful_next : (own : ℕ) (ms : List ℕ) (G : List TheEntry) (e : Entry) → IsEntryHistory own (entry_of e ∷ G) → IsFalse (is_full G)
     → IsFalse (lacks_room (table_after ms G) (stamped_in (entry_of e)).id.replica) → is_lawful ms G (op_in e) ≡ true
 lawful_next own ms G e h room fits =

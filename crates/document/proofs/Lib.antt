@@ -8,7 +8,7 @@ pub mod ReceivedFaults
 pub mod CheckedOperations
 pub mod AllApplied
 pub mod LawfulNext
--- Handed on from the crates below, for users of this one.
+-- Re-exported from the crates below, for users of this one.
 pub use Rattle.oplog.proofs.version
 pub use Rattle.oplog.proofs.operation
 pub use Rattle.oplog.proofs as oplog

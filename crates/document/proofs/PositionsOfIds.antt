@@ -26,7 +26,7 @@ position_within (e ∷ G) a n is = at_test (is_same_id (stamped_in e).id a) (pos
     at_test true rest here = let same : length G ≡ n = (cc) in omega arith
     at_test false rest later = let h = rest later in omega arith
 
--- one more entry leaves what stands at a position
+-- one more entry leaves the entries at older positions as they are
 one_more : (e : Entry) (G : List Entry) (a : OpId) → entry_there (position_of a G) (e ∷ G) ≡ entry_there (position_of a G) G
 one_more e G a = by (position_of a G) refl
   where
@@ -48,7 +48,7 @@ opens_later e G v a other =
     ap (λ b. is_beyond v (entry_there (cond b (Some (length G)) (position_of a G)) (e ∷ G))) other
     ∙ ap (is_beyond v) (one_more e G a)
 
--- where an operation that the vector names opens it, it is open
+-- if an operation that the vector names opens it, it is open
 pub opened : (G : List Entry) (v : Vector) (a : OpId) → a.counter ≡ at v a.replica → opens G v a ≡ true
     → is_open (stamped_entries G) v ≡ true
 opened [] v a named h = absurd (true≢false (sym h))
@@ -68,7 +68,7 @@ opened (e ∷ G) v a named h = by (is_same_id (stamped_in e).id a) refl (opened 
         (is_open (stamped_entries G) v)
         (rest (sym (opens_later e G v a other) ∙ h))
 
--- where none that it names does, it isn't
+-- if no operation that it names does, it isn't
 pub not_opened : (G : List Entry) (v : Vector) → IsLegalStamped (stamped_entries G)
     → ((a : OpId) → a.counter ≢ 0 → a.counter ≡ at v a.replica → opens G v a ≡ false) → is_open (stamped_entries G) v ≡ false
 not_opened [] v l none = refl

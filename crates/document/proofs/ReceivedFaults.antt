@@ -25,13 +25,13 @@ use Rattle.document.proofs.AllApplied.{applied_names_all}
 use Rattle.document.proofs.AmongNamed.{among_at, any_there, none_there}
 use Rattle.document.proofs.PositionsOfIds.{not_opened, opened}
 
--- each item on the way to an element of a legal history's document stands in its list where it was inserted there
+-- each item on the way to an element of a legal history's document is in the list that it was inserted into
 pub items_where_inserted : (H : List Operation) → IsLegal H → (e : Element) → items_in_tree (doc H) e ≡ items_were_inserted H e
 items_where_inserted H legal Doc = refl
 items_where_inserted H legal (Field e n) = items_where_inserted H legal e
 items_where_inserted H legal (Item l a) = λ t. items_inserted H legal l a t && items_where_inserted H legal l t
 
--- the first fault, by what the tests answer
+-- the first fault, given what the tests answer
 pub fault-tested : (G : List Entry) (s : Stamped) (a b c d : Bool)
     → breaks_chain (applied G) s ≡ a
     → names_nothing (applied G) s ≡ b
@@ -64,7 +64,7 @@ any_opens G v false c l is =
     (λ a n named. ap (opens G v) (λ i. id_at (named i) a.replica)
     ∙ none_there (opens G v) v (sym is) (id_at (at v a.replica) a.replica) (among_at v a.replica c (λ z. n (named ∙ z)))))
 
--- what the tests answer decides whether an operation that stands alone may follow
+-- what the tests answer decides whether an operation that passes the tests of it alone may follow
 pub lawful : (G : List Entry) (s : Stamped) → IsLegalStamped (stamped_entries G) → (r : Result ⊤ Refusal)
     → MatchResult r (λ _. fault_of (stamped_entries G) s ≡ None) (λ why. fault_of (stamped_entries G) s ≡ Some why)
     → StandsAlone s → IsOk r ↔ MayFollow (applied G) s

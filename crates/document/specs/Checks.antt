@@ -1,4 +1,4 @@
--- What private functions look at when they test a received operation, by positions. No rule stands here.
+-- What private functions look at when they test a received operation, by position in the log. None of it is a rule.
 use Rattle.std.specs.Prelude.{ℕ, Bool, false, not, List, Option, Some, None}
 use Rattle.semantics.specs.Ids.{OpId}
 use Rattle.semantics.specs.Vectors.{Vector, is_at_most}

@@ -21,14 +21,14 @@ use Rattle.document.specs.declared.question.Question.TheVariants.{Values, Keys, 
 use Rattle.document.specs.declared.question.Reading.{Reading}
 use Rattle.document.specs.declared.question.Reading.TheVariants as reading
 
--- a document: the members, the entries with the newest first, for how many more there is room, and the tree of what they leave
+-- a document: the members, the entries with the newest first, how many more entries there is room for, and the tree that they leave
 pub record Contents : Type 0 where
   pub members : List ℕ
   pub entries : List TheEntry
   pub room : ℕ
   pub tree : Planted
 
--- the operation can be committed with no memory taken
+-- the operation can be committed without allocating
 pub record HasRoomFor (contents : Contents) (s : Stamped) : Type 0 where
   pub room : 0 < contents.room
   pub reserved : IsReserved contents.tree.nodes contents.tree.scalar s
@@ -46,7 +46,7 @@ asked_of (Conflicts e) = OfDocument (AskConflicts e)
 asked_of (Missing v) = AskMissing v
 asked_of Vector = OfDocument AppliedVector
 
--- what a reading says; it has missing operations with the oldest first
+-- what a reading says; its missing operations are the oldest first
 abbrev pub said_by : Reading → TheReading
 said_by (reading.Values pairs) = Answered (ValuesAre (map (λ p. (p.0, scalar_of p.1)) pairs.items))
 said_by (reading.Keys keys) = Answered (KeysAre keys.items)
@@ -55,8 +55,8 @@ said_by (reading.Conflicts pairs) = Answered (ConflictsAre (map (λ p. (p.0, tag
 said_by (reading.Missing ops) = MissingAre (reverse (map stamped_of ops.items))
 said_by (reading.Vector v) = Answered (VectorIs v)
 
--- the history is legal and of replicas of the table, of which there are few; the vector names all that was applied; and the tree holds
--- the history's document
+-- the history is legal and its replicas are in the table, which is small; the vector names all that was applied; and the tree holds the
+-- history's document
 pub record IsConsistent (table : List ℕ) (v : TheVector) (G : List TheEntry) (t : Planted) : Type 0 where
   pub distinct : AreDistinct table
   pub few : length table ≤ most_named
@@ -66,7 +66,7 @@ pub record IsConsistent (table : List ℕ) (v : TheVector) (G : List TheEntry) (
   pub fits : t.table ≡ table
   pub content : document t ≡ doc (applied G)
 
--- the same, where the table is that of the members and of all who have joined
+-- the same, where the table is that of the members and of all replicas that have joined
 pub record IsGrown (members table : List ℕ) (v : TheVector) (G : List TheEntry) (t : Planted) : Type 0 where
   pub grown : table ≡ table_after members G
   pub consistent : IsConsistent table v G t

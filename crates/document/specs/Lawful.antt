@@ -7,7 +7,7 @@ use Rattle.oplog.specs.operation.declared.op.Op.{Op}
 use Rattle.oplog.specs.operation.Alone.{alone_fault_of_op}
 use Rattle.oplog.specs.operation.Ops.{stamped_of}
 
--- no test of a received operation finds a fault of it after these entries
+-- after these entries, no test finds a fault in the received operation
 abbrev pub is_lawful : (members : List ℕ) → List TheEntry → Op → Bool
 is_lawful ms G o = is_none (alone_fault_of_op o) && is_ready (applied G) (stamped_of o)
     && is_none (check_fault ms (stamped_entries G) (stamped_of o))

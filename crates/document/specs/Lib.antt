@@ -2,7 +2,7 @@
 pub mod Documents
 pub mod Checks
 pub mod Lawful
--- Handed on from the crates below, for users of this one.
+-- Re-exported from the crates below, for users of this one.
 pub use Rattle.oplog.specs.value
 pub use Rattle.oplog.specs.cursor
 pub use Rattle.oplog.specs.operation

@@ -16,7 +16,7 @@ use oplog::{GrowingVector, Log, Op, Shared};
 use std::alloc::{AllocError, Global};
 use tree::Tree;
 
-/// What the history answers, where the tree holds its document.
+/// What the history answers, if the tree holds its document.
 pub fn answer(
     alloc: Global,
     log: &Log,

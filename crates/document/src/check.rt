@@ -1,4 +1,4 @@
-//! Whether an operation that is ready may follow the history.
+//! Whether a ready operation may follow the history.
 
 ghost use Rattle.std.specs.Prelude.{◌≡◌, not, List, None, Some, MatchResult};
 ghost use Rattle.std.specs.Cmp.Lexicographic.{pointwise};
@@ -17,7 +17,7 @@ use ids::{NamedVector, OpId, Refusal, counter_of};
 use oplog::{GrowingVector, Log, Op};
 use tree::Tree;
 
-/// The first fault of an operation against the history, where the tree holds its document.
+/// The first fault of an operation against the history, if the tree holds its document.
 pub fn check(log: &Log, applied: &GrowingVector, tree: &Tree, op: &Op) -> Result<(), Refusal>
     requires { IsConsistent log.now.table applied.now.ids log.now.entries tree.now }
     ensures { let fault = fault_of (stamped_entries log.now.entries) (stamped_of op.now) in
@@ -38,7 +38,7 @@ pub fn check(log: &Log, applied: &GrowingVector, tree: &Tree, op: &Op) -> Result
     Ok(())
 }
 
-/// Whether the vector names another counter of the operation's own replica than the greatest that was applied.
+/// Whether the vector's counter for the operation's own replica differs from the greatest that was applied.
 fn breaks_chain(applied: &GrowingVector, op: &Op) -> bool
     ensures { (H : List Operation) → applied.now.ids ≡ vector_of H → result ≡ breaks_chain H (stamped_of op.now) }
 {
@@ -52,8 +52,8 @@ fn names_all(vector: &NamedVector, applied: &GrowingVector) -> bool
     vector.ids() == applied.ids()
 }
 
-/// Whether the vector names a counter of no operation of the log. One comparison where it is that of all that was applied, as each
-/// vector is where nothing was written apart; else a binary search for each counter.
+/// Whether the vector has a counter that belongs to no operation of the log. One comparison if the vector is that of all that was applied,
+/// as every vector is where no writes are concurrent; else a binary search for each counter.
 fn names_nothing(log: &Log, applied: &GrowingVector, vector: &NamedVector) -> bool
     requires { applied.now.ids ≡ vector_of (operations_in log.now.entries) }
     ensures { (s : Stamped) → s.vector ≡ vector.now → result ≡ names_nothing (operations_in log.now.entries) s }
@@ -64,15 +64,15 @@ fn names_nothing(log: &Log, applied: &GrowingVector, vector: &NamedVector) -> bo
     vector.ids().iter().any(|id| is_of_nobody(log, *id))
 }
 
-/// Whether the id is that of no operation of the log.
+/// Whether no operation of the log has this id.
 fn is_of_nobody(log: &Log, id: OpId) -> bool
     ensures { result ≡ not (has_id (operations_in log.now.entries) id) }
 {
     log.find(id).is_none()
 }
 
-/// Whether an operation that the vector names has a vector that isn't at most this. One comparison where it names all that was
-/// applied; else a binary search for each counter, and a walk beside the vector that is found.
+/// Whether an operation that the vector names has a vector that isn't at most this one. One comparison if this one names all that was
+/// applied; else, for each counter, a binary search and a walk along the vector of the operation found.
 fn is_open(log: &Log, applied: &GrowingVector, vector: &NamedVector) -> bool
     requires applied { applied.now.ids ≡ vector_of (operations_in log.now.entries) }
     requires legal { IsLegalStamped (stamped_entries log.now.entries) }
@@ -84,7 +84,7 @@ fn is_open(log: &Log, applied: &GrowingVector, vector: &NamedVector) -> bool
     vector.ids().iter().any(|id| opens(log, vector, *id))
 }
 
-/// Whether the operation with this id has a vector that isn't at most this.
+/// Whether the operation with this id has a vector that isn't at most this one.
 fn opens(log: &Log, vector: &NamedVector, id: OpId) -> bool
     ensures { result ≡ opens log.now.entries vector.now id }
 {

@@ -92,7 +92,7 @@ impl Document {
         })
     }
 
-    /// The members that it was configured with.
+    /// The members that the replica was configured with.
     pub fn members(&self) -> &ReplicaTable
         ensures { result.now.numbers ≡ self.now.members }
     {
@@ -123,7 +123,7 @@ impl Document {
         &self.applied
     }
 
-    /// Whether an operation with this id was applied. Binary search.
+    /// Whether an operation with this id was applied. A binary search.
     pub fn contains(&self, id: OpId) -> bool
         ensures { result ≡ has_id (applied self.now.entries) id }
     {
@@ -137,15 +137,15 @@ impl Document {
         op.deps.is_at_most(self.applied.ids())
     }
 
-    /// Tests a causally ready operation against the table and the history. One that passed `check_alone` may follow the history, and
-    /// has room in the table, exactly where this answers `Ok`. Allocates nothing. Costs a binary search for each counter of its
-    /// vector, or one comparison where that is all that was applied, and a walk down its place.
+    /// Tests a causally ready operation against the table and the history. One that passed `check_alone` may follow the history, and has
+    /// room in the table, exactly where this returns `Ok`. Allocates nothing. Costs a binary search for each counter of its vector, or one
+    /// comparison if that is the vector of all that was applied, and a walk down its place.
     ///
     /// # Errors
-    /// In this order: `UnknownReplica` where its replica isn't in the table, and the table is full; `BrokenChain` where its vector
-    /// doesn't name all that was applied of its own replica; `NamesNothing` where a counter of its vector that is above 0 is that of
-    /// no applied operation; `NotClosed` where an operation that its vector names has a vector that isn't at most this; `BadPlace`
-    /// where an item of its place was not inserted into that very list.
+    /// In this order: `UnknownReplica` if its replica isn't in the table and the table is full; `BrokenChain` if its vector doesn't name
+    /// all that was applied of its own replica; `NamesNothing` if a counter above 0 in its vector belongs to no applied operation;
+    /// `NotClosed` if an operation that its vector names has a vector that isn't at most this one; `BadPlace` if an item of its place was
+    /// not inserted into that very list.
     pub fn check(&self, op: &Op) -> Result<(), Refusal>
         ensures fault { let fault = check_fault self.now.members (stamped_entries self.now.entries) (stamped_of op.now) in
             MatchResult result (λ _. fault ≡ None) (λ why. fault ≡ Some why) }
@@ -172,7 +172,7 @@ impl Document {
         self.tree.resolve(alloc, expression)
     }
 
-    /// Takes the memory that committing this operation needs, and changes no content.
+    /// Allocates the memory that committing this operation needs. Changes no content.
     ///
     /// # Errors
     /// `AllocError` if allocation fails.
@@ -186,7 +186,7 @@ impl Document {
         self.tree.reserve(alloc, op)
     }
 
-    /// Appends an entry for which there is room. Its replica joins the table, unless it is there. Allocates nothing.
+    /// Appends an entry for which there is room. Its replica joins the table, unless it is in it. Allocates nothing.
     pub fn commit(&mut self, entry: Entry)
         requires room { HasRoomFor self.old (stamped_in (entry_of entry)) }
         requires lawful { MayFollowEntries self.old.entries (entry_of entry) }
@@ -202,13 +202,13 @@ impl Document {
         self.log.push(entry);
     }
 
-    /// The answer to a question: the history's, which for a question to the document is the view of its operations as a set. Copies
-    /// what it returns. Costs a walk along the expression and what is answered; for items, a look at each, tombstones included, of the
-    /// blocks of the list in which one is shown.
+    /// The answer to a question: the history's, which for a question to the document is the view of its operations as a set. Copies what it
+    /// returns. Costs a walk along the expression, plus the size of the answer; for items, a look at every item, tombstones included, in
+    /// the list's blocks that have a visible one.
     ///
     /// # Errors
-    /// The refusal of the expression: those of `resolve`, and `AtHead` where it leads to a head. The history and the view of its
-    /// operations refuse alike. Or `NoMemory` if allocation fails.
+    /// The refusal of the expression: those of `resolve`, and `AtHead` if it leads to a head. The history and the view of its operations
+    /// refuse alike. Or `NoMemory` if allocation fails.
     pub fn ask(&self, alloc: Global, question: &Question) -> Result<Reading, Refusal>
         ensures answer { IfOk result (λ r. said_by r ≡ reading_of self.now.entries (asked_of question.now)) }
         ensures view { IfOk result
@@ -224,8 +224,8 @@ impl Document {
         answer(alloc, &self.log, &self.applied, &self.tree, question)
     }
 
-    /// An element at a glance: what stands there and, down to so many elements beneath it, what stands beneath, at most so many
-    /// elements in all, of one history. What isn't shown is marked. Costs a walk along the expression and what is shown.
+    /// An element at a glance: its content and what is beneath it, to a depth of `depth` below it and at most `elements` elements in all,
+    /// of one history. Where something is left out, that is marked. Costs a walk along the expression, plus what is shown.
     ///
     /// # Errors
     /// As `ask`.
@@ -280,7 +280,7 @@ impl Document {
         missing_before(alloc, &self.log, position, vector)
     }
 
-    /// The entries from a position on, the oldest first: none where the history has no more than that. Shares operations and commands.
+    /// The entries from a position on, the oldest first: none if the history has no more than that. Shares operations and commands.
     ///
     /// # Errors
     /// `AllocError` if allocation fails.

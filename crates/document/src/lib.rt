@@ -9,7 +9,7 @@ mod question;
 pub use document::Document;
 pub use question::{Question, Reading};
 
-// Handed on from the crates below, for users of this one.
+// Re-exported from the crates below, for users of this one.
 pub use oplog::{
     Command, Delivered, Entry, Expr, ExprStep, GrowingVector, Key, Misplaced, NamedVector, Numbers,
     Op, Place, Publish, Reply, Request, Scalar, Shared, Submission, Tag, Text, Val, VersionVector,

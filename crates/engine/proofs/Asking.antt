@@ -1,4 +1,4 @@
--- What a client keeps, as it looks for answers.
+-- What a client keeps while it looks for answers.
 use Rattle.std.proofs.Common.{◌≡◌, ℕ, zero, suc, ◌+◌, ◌-◌, ◌<◌, true, cond, subst, Option, Some, None, List, [], ◌∷◌, ◌++◌, length, map}
 use Rattle.std.proofs.Common.{set}
 use Rattle.std.proofs.Common.{get_or, slice_get, sym, refl, ap, ◌∙◌, arith}
@@ -65,7 +65,7 @@ looked own table c d kept i k after o is at now same known a = record {
   given_is = is_given own table k.submission after o a;
 }
 
--- ---- whose the submission is
+-- ---- which client's the submission is
 
 by_at : (client n : ℕ) (xs : List Submission) (i : ℕ) (x : Submission) → AreBy client n xs → slice_get xs i ≡ Some x
     → (x.client ≡ client) × (x.serial ≡ n + i)
@@ -83,7 +83,7 @@ pub by_snoc : (client n : ℕ) (xs : List Submission) (x : Submission) → AreBy
 by_snoc client n [] x h c s = (c, omega (arith, s), tt)
 by_snoc client n (y ∷ xs) x h c s = (h.0, h.1, by_snoc client (n + 1) xs x h.2 c (omega (arith, s)))
 
--- what was kept is still so
+-- what was kept is still kept
 pub by_kept : (client n : ℕ) (xs ys : List Submission) → ys ≡ xs → AreBy client n xs → AreBy client n ys
 by_kept client n xs ys same h = subst (AreBy client n) (sym same) h
 
@@ -154,7 +154,7 @@ reply_of_answered own table c d t o r G H is same h b = (
   b,
 )
 
--- what was answered stays an answer in all that comes
+-- what was answered stays an answer in every later history
 pub legal_reply : (own : ℕ) (table : List ℕ) (c d : Client) (t : Ticket) (o : Option (Reply × List Entry)) (r : Reply) (G H : List Entry)
     → o ≡ Some (r, G) → submissions_by d ≡ submissions_by c → IfSome o (λ x. IsAnswered own table d t x.0 x.1) → BeginsWith H G
     → (x : Submission) × (slice_get (submissions_by c) (t.serial - 1) ≡ Some x)
@@ -181,7 +181,7 @@ noticed now own table c t k (Some n) at h =
     (sym h.1) h.2 in
     record { kept = k; at = at; of_answer = (h.0, h.1, answer, answer_within own table (now n) s (reply_of h.0.reply) answer.0, h.3) }
 
--- what the cell holds, seen from the submission that is waited for
+-- what the cell holds, as the waiting submission sees it
 pub answer_found : (k : AwaitedAnswer) (a : AnswerCell) (x : Submission) → k.known ≡ Some a → k.submission ≡ x
     → answer_of k ≡ answer_in x (Some a)
 answer_found k a x known is = ap (answer_in k.submission) known ∙ ap (λ (y : Submission). answer_in y (Some a)) is

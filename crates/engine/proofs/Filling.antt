@@ -94,7 +94,7 @@ pub answers_pop : (p : ℕ) (ps : List ℕ) (G : List Entry) (whole rest : List 
 answers_pop p ps G whole rest h is a =
     let k = subst (λ (l : List Handled). AreAnswers p ps G l) is a in (answers_front p ps G rest h k, answers_last p ps G rest h k)
 
--- in the other order they are answers too
+-- in reverse order they are answers too
 pub answers_reversed : (p : ℕ) (ps : List ℕ) (G : List Entry) (hs : List Handled) → AreAnswers p ps G hs → AreAnswers p ps G (reverse hs)
 answers_reversed p ps G [] a = tt
 answers_reversed p ps G (h ∷ hs) a = subst (λ (l : List Handled). AreAnswers p ps G l) (sym (reverse-append (h ∷ []) hs))

@@ -15,7 +15,7 @@ abbrev pub AllBegin : List Entry → List Client → Type 0
 AllBegin G [] = ⊤
 AllBegin G (c ∷ cs) = BeginsWith G c.seen × AllBegin G cs
 
--- whose it is, and what it submitted
+-- which client it is, and what it submitted
 abbrev pub sent_by : Client → ℕ × List Submission
 sent_by c = (c.number, submissions_by c)
 

@@ -1,4 +1,4 @@
--- What a configuration within its limits says of the queue.
+-- What a configuration within its limits implies for the queue.
 use Rattle.std.proofs.Common.{◌≡◌, ◌↔◌, ◌⊎◌, inl, inr, ℕ, ◌<◌, ◌≤◌, true, false, ◌&&◌, nat_le, Result, Ok, Err, sym, ap, arith}
 use Rattle.std.proofs.Common.{true≢false}
 use Rattle.std.specs.Prelude.{IfErr}
@@ -39,7 +39,7 @@ from_one_to : (limit n : ℕ) → is_from_one_to limit n ≡ true → IsFromOneT
 from_one_to limit n h =
     let parts = and_parts (nat_le 1 n) (nat_le n limit) h in (leb-true 1 n parts.0, leb-true n limit parts.1)
 
--- what the limits say
+-- what the limits imply
 pub record HasLimits (c : Configuration) : Type 0 where
   pub own : 1 ≤ c.own
   pub clients : IsFromOneTo 64 c.clients

@@ -1,4 +1,4 @@
--- What stands in the history of a closed engine was submitted by its client.
+-- Each own entry in the history of a closed engine was submitted by its client.
 use Rattle.std.proofs.Common.{◌≡◌, ◌==◌, ℕ, ◌-◌, Bool, true, false, cond, Some, List, [], ◌∷◌, ◌++◌, length, refl}
 use Rattle.std.proofs.Common.{sym, ap, ◌∙◌, subst}
 use Rattle.std.proofs.lemmas.List.{map-append}
@@ -15,7 +15,7 @@ use Rattle.replica.specs.operation.Submissions.{submitted_of}
 use Rattle.command.specs.InOrder.{of}
 use Rattle.engine.specs.WriterSteps.{submitted_in}
 
--- what one client submitted, in its order
+-- what one client submitted, in order
 submitted_of_client : (c : ℕ) (xs : List Submission) → of_client c (submitted_in xs) ≡ submitted_in (of c xs)
 submitted_of_client c [] = refl
 submitted_of_client c (x ∷ xs) = by (x.client == c) (submitted_of_client c xs)

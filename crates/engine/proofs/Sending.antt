@@ -1,4 +1,4 @@
--- What a client is once it has sent.
+-- A client after it has sent.
 use Rattle.std.proofs.Common.{◌≡◌, ℕ, ◌+◌, ◌++◌, None, List, [], ◌∷◌, length, map, ap, ◌∙◌, subst, sym, refl, arith}
 use Rattle.std.proofs.lemmas.List.{length-map, map-append}
 use Rattle.replica.specs.operation.declared.submission.Submission.{Submission}
@@ -39,7 +39,7 @@ sent_one c d ks k l replica number serials capacity full seen read reads kept be
 abbrev kept_submissions : List AwaitedAnswer → List Submission
 kept_submissions kept = map (λ (z : AwaitedAnswer). z.submission) kept
 
--- what the queue knows of the client, and the client of its own, once it has sent
+-- what the queue knows of the client, and what the client knows of its own, once it has sent
 pub sent_more : (number : ℕ) (put now : List Submission) (before kept after : List AwaitedAnswer) (k : AwaitedAnswer) (x : Submission)
     → put ≡ kept_submissions before → AreBy number 1 (kept_submissions before) → kept ≡ before → after ≡ kept ++ k ∷ []
     → k.submission ≡ x → now ≡ put ++ x ∷ [] → x.client ≡ number → x.serial ≡ length before + 1

@@ -7,7 +7,7 @@ use Rattle.engine.specs.declared.writer.Step.{Step}
 use Rattle.engine.specs.declared.writer.Step.TheVariants.{Idle, Published, Held}
 
 module _ (w m : Writer) (t : IsWriterStep w m.held m) (published : m.published ≡ w.published) where
-  -- nothing was done that is to be shown
+  -- nothing was done that has to be shown
   pub idle : m.held ≡ [] → m.published ≡ m.handler.replica.entries → (hs : List Handled) × IsWriterStep w hs m × Ends w hs Idle m
   idle none whole = (m.held, t, (none, none, published, whole))
 

@@ -15,13 +15,13 @@ use Rattle.command.specs.Answers.{AnswerCell, Given}
 use Rattle.command.specs.Counts.{full_after}
 use Rattle.command.specs.declared.ticket.Ticket.{Ticket}
 
--- what was submitted under a serial, and what its cell is known to hold
+-- what was submitted under a serial, and what the cell of its answer is known to hold
 pub record AwaitedAnswer : Type 0 where
   pub submission : Submission
   pub known : Option AnswerCell
 
--- a client: the engine's replica number and its own, how many serials it has, the capacity of the queue and how often it found that
--- full, what its token has seen, what it read last and how many reads it has made, and what it keeps of each serial
+-- a client: the engine's replica number and its own number, how many serials it has, the capacity of the queue and how often it found that
+-- full, what its token has seen, what it read last and how many reads it has made, and what it keeps for each serial
 pub record Client : Type 0 where
   pub replica : ℕ
   pub number : ℕ
@@ -43,7 +43,7 @@ with_request c request = record c {
       }) ∷ [];
 }
 
--- the client after it was refused: if the queue was full, it has found that once more
+-- the client after it was refused: if the queue was full, it has found it full once more
 abbrev pub after_refusal : Client → Refusal → Client
 after_refusal c why = record c { found_full = full_after c.found_full why }
 
@@ -51,12 +51,12 @@ after_refusal c why = record c { found_full = full_after c.found_full why }
 abbrev pub submissions_by : Client → List Submission
 submissions_by c = map (λ k. k.submission) c.kept
 
--- these are what this client submitted, under the serials from n on
+-- this client submitted these, under the serials from n on
 abbrev pub AreBy : (client n : ℕ) → List Submission → Type 0
 AreBy client n [] = ⊤
 AreBy client n (x ∷ xs) = (x.client ≡ client) × (x.serial ≡ n) × AreBy client (n + 1) xs
 
--- what a cell gives to the submission that is waited for: the answer to another submission is none
+-- what a cell gives to the submission that waits: nothing, if its answer is to another submission
 abbrev pub answer_in : Submission → Option AnswerCell → Option Given
 answer_in x None = None
 answer_in x (Some a) = cond (is_same_submission a.submission x) a.given None
@@ -65,7 +65,7 @@ answer_in x (Some a) = cond (is_same_submission a.submission x) a.given None
 abbrev pub answer_of : AwaitedAnswer → Option Given
 answer_of k = answer_in k.submission k.known
 
--- what is kept of an answer's notice: nothing as long as no answer is known, and then that of the answer
+-- what is kept of an answer's notice: nothing until an answer is known, and then that of the answer
 abbrev pub IsNoticeOf : (own : ℕ) (members : List ℕ) → AwaitedAnswer → Option (List Entry) → Type 0
 IsNoticeOf own ps k None = answer_of k ≡ None
 IsNoticeOf own ps k (Some G) = (r : Reply) × (answer_of k ≡ Some (record { reply = r; history = G }))
@@ -85,8 +85,8 @@ pub record Looks (c d : Client) (i : ℕ) (given : Option Given) : Type 0 where
   pub known : IfSome before.known (λ a. after.known ≡ Some a)
   pub given_is : given ≡ answer_of after
 
--- the ticket's submission, which is its client's under its serial, was answered r with a notice of G: G allows the reply, has the
--- position or the length that it names, and if it is a refusal has no entry of the submission
+-- the ticket's submission, which is the client's under its serial, was answered r with a notice of G: G allows the reply, has the position
+-- or the length that it names, and if it is a refusal has no entry of the submission
 pub record IsAnswered (own : ℕ) (members : List ℕ) (c : Client) (t : Ticket) (r : Reply) (G : List Entry) : Type 0 where
   pub kept : AwaitedAnswer
   pub at : slice_get c.kept (t.serial - 1) ≡ Some kept
@@ -96,7 +96,7 @@ pub record IsAnswered (own : ℕ) (members : List ℕ) (c : Client) (t : Ticket)
   pub answer : IsAnswerWith own members G (submitted_of kept.submission) (reply_of r)
   pub within : IsWithin G (reply_of r)
 
--- a notice of the answer to the ticket's submission, if one is there: G allows the reply, and has the position or the length that it
+-- a notice of the answer to the ticket's submission, if there is an answer: G allows the reply, and has the position or the length that it
 -- names; it is the notice of the answer that is known, if one is
 pub record HasNotice (own : ℕ) (members : List ℕ) (c : Client) (t : Ticket) (notice : Option (List Entry)) : Type 0 where
   pub kept : AwaitedAnswer

@@ -1,7 +1,7 @@
 -- What contracts see of writers and clients, and what a step of the writer does.
 pub mod WriterSteps
 pub mod Clients
--- Handed on from the crates below, for users of this one.
+-- Re-exported from the crates below, for users of this one.
 pub use Rattle.replica.specs.value
 pub use Rattle.replica.specs.operation
 pub use Rattle.replica.specs.oplog

@@ -19,8 +19,8 @@ use Rattle.command.specs.published.declared.written.Written.{Written}
 use Rattle.engine.specs.declared.writer.Step.{Step}
 use Rattle.engine.specs.declared.writer.Step.TheVariants.{Idle, Published, Held}
 
--- a writer: the number of its clients, its batch, the replica that it works on, what is published of that, all that it took so far, how
--- often it found the queue empty, and what is handled and not answered
+-- a writer: the number of its clients, its batch, the replica that it works on, how much of that is published, all that it took so far, how
+-- often it found the queue empty, and what is handled but not answered
 pub record Writer : Type 0 where
   pub clients : ℕ
   pub batch : ℕ
@@ -30,7 +30,7 @@ pub record Writer : Type 0 where
   pub found_empty : ℕ
   pub held : List Handled
 
--- the writer of a new engine: its replica is that of an engine that is opened, and nothing was taken or published
+-- the writer of a new engine: its replica is that of an engine just opened, and nothing was taken or published
 abbrev pub new_writer : Configuration → Writer
 new_writer config = record {
   clients = config.clients;
@@ -50,7 +50,7 @@ publication_of own table p = record p { own = own; members = table }
 abbrev pub submitted_in : List Submission → List Submitted
 submitted_in items = map submitted_of items
 
--- what holds of a writer between its calls, which takes from this queue, and has the name of this logbook
+-- the invariant of a writer between its calls, which takes from this queue and has the name of this logbook
 pub record IsWriter (own : ℕ) (table : List ℕ) (publication : Publication) (handler : Handler) (hand : Hand) (held : List Handled)
     (batch room : ℕ) (queue : TableId) (log : List Written) : Type 0 where
   pub holds : Holds (publication_of own table publication) handler.replica
@@ -62,8 +62,8 @@ pub record IsWriter (own : ℕ) (table : List ℕ) (publication : Publication) (
   pub positive : 0 < batch
   pub named : IsQueueOf queue log
 
--- a step that began with nothing held went on with a drain that had ended early, and then took these submissions, at most a batch, which it
--- handled one after another, none skipped. It took fewer than a batch only where it found the queue empty
+-- a step that began with nothing held went on with a drain that had ended early, and then took these submissions, at most a batch, and
+-- handled them one after another, skipping none. It took fewer than a batch only if it found the queue empty
 pub record IsWriterStep (w : Writer) (hs : List Handled) (v : Writer) : Type 0 where
   pub rested : Handler
   pub resumes : Resumes w.handler rested
@@ -81,7 +81,7 @@ Ends w hs (Published n) v = (n ≡ length hs) × (v.held ≡ []) × (v.published
     × (n ≡ 0 → length w.published < length v.published)
 Ends w hs Held v = (v.held ≡ hs) × (v.published ≡ w.published) × (length hs ≡ 0 → length v.published < length v.handler.replica.entries)
 
--- a publish of what is held, and the answers after it; if allocation fails, nothing
+-- a publish of what is held, followed by the answers; if allocation fails, nothing
 abbrev pub Shows : Writer → Step → Writer → Type 0
 Shows w Idle v = ⊥
 Shows w (Published n) v = (n ≡ length w.held) × (v ≡ record w { published = w.handler.replica.entries; held = [] })

@@ -1,4 +1,4 @@
-//! Clients: they submit commands and operations of peers, poll for the answers, and ask.
+//! Clients: they submit commands and operations of peers, poll for the answers, and ask questions.
 
 ghost use Rattle.std.specs.Prelude.{◌≡◌, ◌+◌, ◌-◌, ◌<◌, ◌≤◌, ◌⊎◌, ◌++◌, ◌∷◌, ◌↔◌, [], List, length, Option, Some, None, Ok, Err, IfOk};
 ghost use Rattle.std.specs.Prelude.{IfErr, IfSome, MatchBool, MatchResult, map, option_map, slice_get};
@@ -30,8 +30,8 @@ use std::alloc::{AllocError, Global};
 use std::marker::Model;
 use std::sync::Wait;
 
-/// A client of an engine, for one thread at a time. It numbers what it submits from 1 on, and keeps each serial's submission and the
-/// cell of its answer for its whole life. Its token reads as a `ReaderToken` does.
+/// A client of an engine, for one thread at a time. It numbers what it submits from 1 on, and for its whole life keeps each serial's
+/// submission and the cell of its answer. Its token reads as a `ReaderToken` does.
 #[derive(Drop)]
 pub struct Client<N: EngineName> {
     replica: ReplicaId,
@@ -101,15 +101,14 @@ impl<N: EngineName> Client<N> {
         }
     }
 
-    /// Submits a command to the writer, and returns its ticket: the answer comes by `poll`, after a step. The position or the length that
-    /// it names is at least `seen_len` at this call, but for `BadFloor`. The command is kept once, for as long as the client lives or an
-    /// entry has it. May spin behind another thread that is in the queue; never waits for room. Four allocations, and room for the serial,
+    /// Submits a command to the writer, and returns its ticket: `poll` gives the answer after a step. The position or the length that it
+    /// names is at least `seen_len` at this call, except for `BadFloor`. One copy of the command is kept, for as long as the client lives
+    /// or an entry has it. May spin while another thread is in the queue; never waits for room. Four allocations, and space for the serial,
     /// which is kept for good.
     ///
     /// # Errors
     /// `SerialEnd` if all serials are used, else `Closed` if the engine is closed, else `NoMemory` if allocation fails, else `QueueFull` if
-    /// the queue was full at one moment of the call, which `found_full` counts. A refused call takes no serial; the command is gone with
-    /// it.
+    /// the queue was full at some moment of the call, which `found_full` counts. A refused call takes no serial and drops the command.
     pub fn submit(
         &mut self,
         rt: &impl Wait,
@@ -128,8 +127,8 @@ impl<N: EngineName> Client<N> {
         self.send(rt, alloc, serial, Request::Command(command))
     }
 
-    /// Submits a command as `submit` does, and leaves it with the caller: to try again takes no clone of it, after a refusal and after a
-    /// reply with `NoMemory`. One allocation fewer than `submit`.
+    /// Submits a command as `submit` does, but leaves it with the caller: trying again, after a refusal or after a reply with `NoMemory`,
+    /// needs no clone of it. One allocation fewer than `submit`.
     ///
     /// # Errors
     /// As `submit`.
@@ -151,7 +150,7 @@ impl<N: EngineName> Client<N> {
         self.send(rt, alloc, serial, Request::Command(command))
     }
 
-    /// Submits an operation that a peer sent, as `submit` does a command. What is passed is shared, and not copied.
+    /// Submits an operation that a peer sent, as `submit` does a command. The operation is shared, not copied.
     ///
     /// # Errors
     /// As `submit`.
@@ -230,7 +229,7 @@ impl<N: EngineName> Client<N> {
         }
     }
 
-    /// Takes the client apart for `close`: its sender goes back to the taker, and the notice begins with all that it had seen.
+    /// Takes the client apart for `close`: its sender goes back to the taker, and the notice begins with all that the client had seen.
     pub(crate) fn end(
         self,
         rt: &impl Wait,
@@ -254,15 +253,15 @@ impl<N: EngineName> Client<N> {
         own.agree(queue_name);
         taker.end(sender);
         if !token.begins(notice) {
-            // Never: what a token has seen was published before, and the notice is of all that was. No contract says so.
+            // Unreachable: what a token has seen was published before, and the notice is of all that was published. No contract says so.
             for _ in rt.forever() {}
             unreachable!()
         }
     }
 
     /// The reply to the ticket's submission once the writer has answered it, else `None`. From then on the client has seen all that was
-    /// published with the answer, and the reply stays the same. What a refusal names stands nowhere in that, so it can be submitted
-    /// anew. Never waits; allocates nothing. Linear in the size of what was submitted.
+    /// published with the answer, and the reply stays the same. If it is a refusal, the submission has no entry in that history, so it can
+    /// be submitted again. Never waits; allocates nothing. Linear in the size of what was submitted.
     ///
     /// # Errors
     /// `Foreign` if the ticket is of another replica number or another client, or of a serial that wasn't taken. `Closed` if the engine is
@@ -283,7 +282,7 @@ impl<N: EngineName> Client<N> {
             (λ r. (x : ASubmission) × (slice_get (submissions_by self.old) (ticket.now.serial - 1) ≡ Some x)
             × IsAnswer N.own N.table self.new.seen (submitted_of x) (reply_of r))) }
     {
-        // Looked at first: what isn't answered once the engine is closed never will be.
+        // Read first: what isn't answered once the engine is closed never will be.
         let is_closed = self.is_closed();
         let Some((reply, notice)) = self.look(ticket)? else {
             return if is_closed {
@@ -297,8 +296,8 @@ impl<N: EngineName> Client<N> {
     }
 
     /// The notice of the ticket's answer once the writer has answered it, else `None`. It is of what was published with the answer: after a
-    /// `poll` that gave the reply, it is there, and is what that has seen. Never waits; allocates nothing. Linear in the size of what was
-    /// submitted.
+    /// `poll` that returned the reply, it is there, and is the one that `poll` learnt of. Never waits; allocates nothing. Linear in the
+    /// size of what was submitted.
     ///
     /// # Errors
     /// `Foreign` and `Closed`, as `poll`.
@@ -318,7 +317,7 @@ impl<N: EngineName> Client<N> {
         }
     }
 
-    /// What the ticket's submission was answered, once it was.
+    /// The reply to the ticket's submission and its notice, once it was answered.
     ///
     /// # Errors
     /// `Foreign`, as `poll`.
@@ -337,7 +336,7 @@ impl<N: EngineName> Client<N> {
         Ok(self.kept[ticket.serial as usize - 1].look())
     }
 
-    /// The ticket of a serial that this client took, as `submit` and `deliver` return it: what `receive` submitted has serials alone.
+    /// The ticket of a serial that this client took, as `submit` and `deliver` return it: `receive` returns serials alone.
     ///
     /// # Errors
     /// `Foreign` if the serial wasn't taken.
@@ -366,7 +365,7 @@ impl<N: EngineName> Client<N> {
             && ticket.serial <= self.kept.len() as u64
     }
 
-    /// Whether the engine is closed: no answer comes any more, and no reading. Never waits.
+    /// Whether the engine is closed: no more answers or readings come. Never waits.
     pub fn is_closed(&self) -> bool {
         self.token.is_closed()
     }
@@ -386,7 +385,7 @@ impl<N: EngineName> Client<N> {
         self.token.seen_len()
     }
 
-    /// Learns of a notice of the same engine: has seen the longer of the two histories from then on. Never waits.
+    /// Learns of a notice of the same engine: the client has then seen the longer of the two histories. Never waits.
     pub fn learn(&mut self, notice: &Notice<N>)
         ensures grows { BeginsWith self.new.seen self.old.seen }
         ensures learns { BeginsWith self.new.seen notice.now }

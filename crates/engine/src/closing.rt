@@ -27,16 +27,16 @@ pub struct Final {
 }
 
 /// Closes the engine of this writer. What is queued, or held and unanswered, is dropped and counted in `left`; operations of peers that
-/// wait for others are dropped too, and come again by an exchange. To leave nothing behind, step until `Idle` before.
+/// wait for others are dropped too, and come again with an exchange. To leave nothing behind, step until `Idle` before.
 ///
 /// Clients and readers that still exist are told: from then on each call of theirs that would read, submit or wait for an answer is refused
-/// with `Closed`, and answers that came before are still there. What is submitted while this runs may be left in the queue without being
-/// counted; its poll says `Closed`.
+/// with `Closed`; answers that came before can still be polled. What is submitted while this runs may be left in the queue without being
+/// counted; its poll returns `Closed`.
 ///
-/// `clients` are those of the engine that are still at hand, in any order. The contract says what became of all that these submitted;
-/// given all of them, `left` is just what they submitted and wasn't answered. Waits for readers that still read.
-/// Allocates nothing, copies nothing, and is linear in what the clients keep. If a client had seen more than is published, this would
-/// wait for good. Nothing lets that happen: each notice is of what was published. But no contract says so yet.
+/// `clients` are those of the engine that the caller still has, in any order. The contract says what became of all that these submitted;
+/// given all of them, `left` is exactly what they submitted that wasn't answered. Waits for readers that are still reading. Allocates
+/// nothing, copies nothing, and is linear in what the clients keep. If a client had seen more than is published, this would wait forever.
+/// That can't happen, since each notice is of what was published, but no contract says so yet.
 pub fn close<N: EngineName>(rt: &impl Wait, writer: Writer<N>, clients: Vec<Client<N>>) -> Final
     ensures history { (history result.history.items ≡ writer.published) × IsEntryHistory N.own writer.published }
     ensures seen { (k : ℕ) (c : TheClient) → slice_get clients.items k ≡ Some c → BeginsWith writer.published c.seen }

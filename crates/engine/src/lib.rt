@@ -1,10 +1,8 @@
-//! An engine: one writer thread that owns a replica, clients that submit from their own threads, and readers that ask without
-//! locks.
+//! An engine: one writer thread that owns a replica, clients that submit from their own threads, and readers that ask without locks.
 //!
-//! `prepare` and `open` give a writer, clients and reader tokens. A client submits a command and gets a ticket; the writer's
-//! `step` handles up to a batch of what waits in the queue, publishes, and answers; the client polls its ticket. Any token asks at
-//! any time.
-//! Only `open`, `submit`, `deliver`, `step` and `close` may wait for another thread.
+//! `prepare` and `open` return a writer, clients and reader tokens. A client submits a command and gets a ticket; the writer's `step`
+//! handles up to a batch of what is queued, publishes, and answers; the client polls its ticket. Any token can ask at any time. Only
+//! `open`, `submit`, `deliver`, `step` and `close` may wait for another thread.
 #![tactic(auto)]
 
 mod client;
@@ -19,11 +17,11 @@ pub use command::{EngineName, Glance, Hop, Kinds, Notice, ReaderToken, Row, Tick
 pub use opening::{Parts, open, prepare};
 pub use writer::{Step, Writer};
 
-// What else an application names: commands and questions, and what they are answered.
+// The other names that an application uses: commands and questions, and the answers to them.
 pub use ids::{Config, OpId, Refusal};
 pub use replica::{
     Command, Entry, Expr, ExprStep, Key, Question, Reading, Reply, Scalar, Tag, Text, Val,
 };
 
-// Handed on from the crates below, for users of this one.
+// Re-exported from the crates below, for users of this one.
 pub use replica::{NamedVector, Op, Shared};

@@ -24,7 +24,7 @@ use replica::{Document, Replica};
 use std::alloc::{AllocError, Global};
 use std::sync::Wait;
 
-/// The parts of a new engine, which has no name yet: `open` is called with a type that names it.
+/// The parts of a new engine, which has no name yet: `open` takes a type that names it.
 #[derive(Drop)]
 pub struct Parts {
     config: Config,
@@ -45,8 +45,8 @@ pub struct Parts {
 /// Makes the parts of an engine with this configuration: an empty replica, and two empty documents for its readers.
 ///
 /// # Errors
-/// `BadConfig` if a number is outside its limits, a member stands twice or the own number isn't a member; else `NoMemory` if
-/// allocation fails.
+/// `BadConfig` if a number is outside its limits, a member is listed twice or the own number isn't a member; else `NoMemory` if allocation
+/// fails.
 pub fn prepare(alloc: Global, config: Config) -> Result<Parts, Refusal>
     ensures config { IfOk result (λ p. p.config ≡ config) }
     ensures bad_config { (result ≡ Err BadConfig) ↔ IsFalse (is_within_limits config) }
@@ -92,13 +92,13 @@ fn two_documents(alloc: Global, members: &[u32]) -> Result<(Document, Document),
     Ok((first, second))
 }
 
-/// Opens an engine: returns its writer, its clients numbered from 0, and its readers, as many of each as the configuration says. `N`
-/// names the engine: the caller picks it for these parts, and what carries it is of this engine. If opening is refused halfway the copies
-/// are ended again, which needs the permission to wait, although no reader is there yet to wait for.
+/// Opens an engine: returns its writer, its clients numbered from 0, and its readers, as many of each as the configuration says. `N` names
+/// the engine: the caller picks it for these parts, and whatever carries it is of this engine. If opening is refused halfway, the copies
+/// are ended again, which needs the permission to wait, although there is no reader yet to wait for.
 ///
 /// # Errors
 /// `NoReaderPlace` if the copies have no token for a reader: no contract says when that is, and tests never met it. `NoMemory` if
-/// allocation fails. The parts are gone then: `prepare` others.
+/// allocation fails. The parts are dropped then: `prepare` new ones.
 pub fn open<N: EngineName>(
     rt: &impl Wait,
     alloc: Global,
@@ -138,7 +138,7 @@ pub fn open<N: EngineName>(
     }
 }
 
-/// The writer's end of a new queue with its name, an empty batch with its room, and a client for each of the last tokens.
+/// The writer's end of a new queue with its name, an empty batch with its capacity, and a client for each of the last tokens.
 fn new_ends<N: EngineName>(
     alloc: Global,
     config: &Config,

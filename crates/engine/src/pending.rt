@@ -54,7 +54,7 @@ impl<N: EngineName> Pending<N> {
         }
     }
 
-    /// The reply and its notice once they are there, and from then on always the same. Never waits.
+    /// The reply and its notice, once they are there; from then on always the same. Never waits.
     pub fn look(&mut self) -> Option<(Reply, Notice<N>)>
         ensures submission { self.new.submission ≡ self.old.submission }
         ensures known { IfSome self.old.known (λ a. self.new.known ≡ Some a) }
@@ -68,7 +68,7 @@ impl<N: EngineName> Pending<N> {
         Some((given.reply, given.notice.again()))
     }
 
-    /// The notice of the answer once it is there: that which a look found, if one has. Never waits.
+    /// The notice of the answer, once it is there: the one that a look found, if one has. Never waits.
     pub fn notice(&self) -> Option<&Notice<N>>
         ensures { MatchOption result (answer_of self.now ≡ None)
             (λ n. (g : TheGiven) × (n.now ≡ g.history)
@@ -83,7 +83,7 @@ impl<N: EngineName> Pending<N> {
     }
 }
 
-/// What an answer gives to the submission, `None` if it is another submission's answer.
+/// What an answer gives to the submission: `None` if it is the answer to another submission.
 fn given_to<'a, N: EngineName>(
     answer: &'a Answer<N>,
     submission: &Submission,

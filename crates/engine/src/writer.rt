@@ -28,14 +28,14 @@ mod tests;
 /// What a step did.
 #[derive(Clone, Copy, Debug, PartialEq, Eq)]
 pub enum Step {
-    /// The queue was empty at one moment of the step, nothing was taken, and there was nothing to publish. After a failed allocation
+    /// The queue was empty at some moment of the step, nothing was taken, and there was nothing to publish. After a failed allocation,
     /// operations of peers that could be applied may still wait; the next step tries again.
     Idle,
-    /// All entries are published, and this many submissions were answered, which may be none. If they are fewer than a batch, and none was
-    /// held before, the queue was empty at one moment of the step.
+    /// All entries are published, and this many submissions were answered, possibly none. If there are fewer than a batch, and none was
+    /// held before, the queue was empty at some moment of the step.
     Published(usize),
-    /// Allocation failed in the publish. The batch is held whole, and none of it is answered. Step again: nothing else is handled before,
-    /// unless the batch is empty, after a drain alone.
+    /// An allocation of the publish failed. The whole batch is held, and none of it is answered. Step again: nothing else is handled before
+    /// that, unless the batch is empty, after a drain alone.
     Held,
 }
 
@@ -45,7 +45,7 @@ pub struct Writer<N: EngineName> {
     pub(crate) handler: Handler,
     pub(crate) taker: Taker<N>,
     pub(crate) queue_name: QueueName<N>,
-    /// Handled and not answered, the oldest first, with room for a batch.
+    /// Handled but not answered, the oldest first, with capacity for a batch.
     pub(crate) held: Vec<Handled<N>>,
     pub(crate) batch: usize,
 }
@@ -77,7 +77,7 @@ impl<N: EngineName> Model for Writer<N> {
 }
 
 impl<N: EngineName> Writer<N> {
-    /// The writer of a new engine, with room for a batch.
+    /// The writer of a new engine, with capacity for a batch.
     pub(crate) fn new(
         publisher: Publisher<N>,
         replica: Replica,
@@ -120,18 +120,18 @@ impl<N: EngineName> Writer<N> {
         self.publisher.notice()
     }
 
-    /// How many operations of peers were dropped because they turned out unlawful; saturates.
+    /// How many operations of peers were dropped because they turned out to be unlawful; saturates.
     pub fn dropped(&self) -> u64
         ensures { result ≡ self.now.handler.replica.dropped }
     {
         self.handler.replica.dropped()
     }
 
-    /// Goes on with the drain of peers' operations that a failed allocation ended early; takes up to a batch of submissions and handles
+    /// Goes on with the drain of peers' operations if a failed allocation ended it early; takes up to a batch of submissions and handles
     /// them one after another; publishes all entries at once; and then answers the submissions, the oldest first. If a batch is held,
-    /// publishes and answers that, and does nothing else. Returns at once where nothing waits. May spin behind a thread that is in the
-    /// queue, and waits for readers of the copy that is brought up to date. Applies each new entry three times: to the replica and to both
-    /// copies.
+    /// publishes and answers that, and does nothing else. Returns at once if there is nothing to do. May spin behind a thread that is in
+    /// the queue, and waits for readers of the copy that is brought up to date. Applies each new entry three times: to the replica and to
+    /// both copies.
     pub fn step(&mut self, rt: &impl Wait, alloc: Global) -> Step
         ensures same { (self.new.clients ≡ self.old.clients) × (self.new.batch ≡ self.old.batch)
             × (0 < self.new.batch) }
@@ -205,7 +205,7 @@ impl<N: EngineName> Writer<N> {
         Step::Published(count)
     }
 
-    /// Publishes all entries. `AllocError` if allocation fails, and then nothing changes.
+    /// Publishes all entries. `AllocError` if allocation fails; nothing changes then.
     fn publish_all(&mut self, rt: &impl Wait) -> Result<(), AllocError>
         ensures publishes { MatchResult result (λ _. self.new ≡ record self.old { published = self.old.handler.replica.entries })
             (λ _. self.new ≡ self.old) }
@@ -234,7 +234,7 @@ fn is_all_published<N: EngineName>(publisher: &Publisher<N>, handler: &Handler) 
     publisher.notice().len() >= handler.replica.history_len()
 }
 
-/// Fills an empty batch. Ends early exactly where the queue is found empty.
+/// Fills an empty batch. Ends early exactly when the queue is found empty.
 fn fill<N: EngineName>(
     rt: &impl Wait,
     alloc: Global,
@@ -293,7 +293,7 @@ fn handle_one<N: EngineName>(
 }
 
 /// Answers the batch, the oldest submission first, each with its reply and a notice of the published history. That each answer is set is
-/// tested.
+/// only tested.
 fn give<N: EngineName>(held: &mut Vec<Handled<N>>, notice: &Notice<N>)
     requires { AreAnswers N.own N.table notice.now held.old.items }
     ensures held { held.new.items ≡ [] }

@@ -16,7 +16,7 @@ use Rattle.rtrb.specs.Ring.{sent}
 use Rattle.followers.specs.Feeds.{AreFed, IsFedFrom, IsFollowing, awaiting}
 use Rattle.followers.specs.declared.feed.Feed.{Feed}
 
--- what is behind the first n entries, and these
+-- what comes after the first n entries, and these
 pub behind_first : (n : ℕ) (G : List TheEntry) → reverse (drop n (reverse G)) ++ first_entries n G ≡ G
 behind_first n [] = ap (λ (l : List TheEntry). reverse l ++ []) (drop_all n [] (omega arith))
 behind_first n (e ∷ G) = at_test (behind_first n G) (nat_lt (length G) n) refl
@@ -45,7 +45,7 @@ map_reverse (e ∷ es) =
     ∙ ap (λ (l : List TheEntry). l ++ entry_of e ∷ []) (map_reverse es)
     ∙ sym (reverse-append (entry_of e ∷ []) (map entry_of es))
 
--- the entries from n on, turned round, and the first n
+-- the entries from n on, reversed, and the first n
 pub ahead_of : (n : ℕ) (es : List Entry) (G : List TheEntry) (sent : List Entry)
     → map entry_of es ≡ entries_from n G → IsFedFrom G n [] sent → IsFedFrom G (length G) (reverse es) sent
 ahead_of n es G sent rest fed = record {
@@ -55,7 +55,7 @@ ahead_of n es G sent rest fed = record {
       ∙ behind_first n G ∙ sym (all_first G);
 }
 
--- what is fed by a document is fed by it when it has grown
+-- what is fed from a document is fed from it when it has grown
 pub grown : (n : ℕ) (ahead sent : List Entry) (G H : List TheEntry) → BeginsWith H G → IsFedFrom G n ahead sent → IsFedFrom H n ahead sent
 grown n ahead sent G H begins fed =
     let longer : length G ≤ length H = no_shorter H G begins in
@@ -65,20 +65,20 @@ grown n ahead sent G H begins fed =
       first = fed.first ∙ sym (first_of_longer n begins.0 G within) ∙ ap (λ (l : List TheEntry). first_entries n l) (sym begins.1);
     }
 
--- so of all feeds of a document
+-- the same for all feeds of a document
 pub all_grown : (fs : List Feed) (G H : List TheEntry) → BeginsWith H G → AreFed G fs → AreFed H fs
 all_grown fs G H begins fed k d within =
     let f : Feed = slice_index_or fs k d in
     grown f.next f.ahead.items (sent f.to) G H begins (fed k d within)
 
--- a feed that has sent nothing is fed by any document
+-- a feed that has sent nothing is fed from any document
 pub added : (fs : List Feed) (f : Feed) (G : List TheEntry) → AreFed G fs → IsFedFrom [] f.next f.ahead.items (sent f.to)
     → AreFed G (fs ++ f ∷ [])
 added fs f G all one =
     All-push (λ (x : Feed). IsFedFrom G x.next x.ahead.items (sent x.to)) fs f all
     (grown f.next f.ahead.items (sent f.to) [] G (G, sym (append-nil G)) one)
 
--- what moves from ahead into the ring is fed as before
+-- what moves from ahead into the ring leaves the feed fed as before
 pub pushed : (n m : ℕ) (ahead left sent more : List Entry) (G : List TheEntry)
     → map entry_of left ++ history more ≡ map entry_of ahead ++ history sent → m ≡ n
     → IsFedFrom G n ahead sent → IsFedFrom G m left more
@@ -89,7 +89,7 @@ pushed n m ahead left sent more G same is fed =
       first = same ∙ fed.first ∙ ap (λ (k : ℕ). first_entries k G) (sym is);
     }
 
--- what has come of what was sent is its beginning, so what was taken in is one too
+-- what has come is a beginning of what was sent, so what was taken in is one too
 pub begins_fed : (n : ℕ) (ahead sent came known : List Entry) (kept : Option Entry) (taken G : List TheEntry)
     → came ++ known ≡ sent → IsFollowing taken kept came → IsFedFrom G n ahead sent → BeginsWith G taken
 begins_fed n ahead sent came known kept taken G all follows fed =

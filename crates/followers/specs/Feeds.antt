@@ -8,21 +8,21 @@ use Rattle.rtrb.specs.Ring.{IsPair, received, sent}
 use Rattle.followers.specs.declared.feed.Feed.{Feed}
 use Rattle.followers.specs.declared.follower.Follower.{Follower}
 
--- the history H is G with one more entry, or G where none was taken
+-- the history H is G with one more entry, or G if none was taken
 abbrev pub TakesOne : (took : Bool) → (G H : List TheEntry) → Type 0
 TakesOne true G H = (e : TheEntry) × (H ≡ e ∷ G)
 TakesOne false G H = H ≡ G
 
--- what was sent, and what is ahead, the newest first, are the first entries of the history G
+-- what was sent, followed by what is ahead (the newest first), is the first entries of the history G
 pub record IsFedFrom (G : List TheEntry) (next : ℕ) (ahead sent : List Entry) : Type 0 where
   pub within : next ≤ length G
   pub first : map entry_of ahead ++ history sent ≡ first_entries next G
 
--- so each of these feeds was fed
+-- each of these feeds was fed from G
 abbrev pub AreFed : List TheEntry → List Feed → Type 0
 AreFed G = All (λ f. IsFedFrom G f.next f.ahead.items (sent f.to))
 
--- a feed has come to these, and the follower has the other end of its ring
+-- a feed was added to these, and the follower has the other end of its ring
 abbrev pub HasCome : (before after : List Feed) → Follower → Type 0
 HasCome before after f = (feed : Feed) × IsPair feed.to f.from × (after ≡ before ++ feed ∷ [])
 
@@ -35,10 +35,10 @@ abbrev pub awaiting : Option Entry → List TheEntry
 awaiting None = []
 awaiting (Some e) = entry_of e ∷ []
 
--- what came is what was taken in, and the entry that is kept
+-- what came is what was taken in, and then the entry that is kept
 abbrev pub IsFollowing : (taken : List TheEntry) → (kept : Option Entry) → (came : List Entry) → Type 0
 IsFollowing taken kept came = history came ≡ awaiting kept ++ taken
 
--- a follower shows what came to it, but for the entry that it keeps
+-- a follower shows what came to it, except for the entry that it keeps
 abbrev pub ShowsWhatCame : Follower → Type 0
 ShowsWhatCame f = IsFollowing f.document.entries f.kept (received f.from)

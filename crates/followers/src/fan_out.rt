@@ -28,10 +28,10 @@ impl Feeds {
         }
     }
 
-    /// A new follower, through a ring with room for so many entries, of the document of this number. It has taken nothing in.
+    /// A new follower of the document of this number, through a ring with room for `room` entries. It has taken in nothing yet.
     ///
     /// # Errors
-    /// As `new_ends`. No feed has come then.
+    /// As `new_ends`. No feed was added then.
     pub fn follower(&mut self, alloc: Global, room: usize, own: u32) -> Result<Follower, Refusal>
         ensures fed { (G : List TheEntry) → AreFed G self.old.feeds.items → AreFed G self.new.feeds.items }
         ensures pair { MatchResult result
@@ -46,10 +46,10 @@ impl Feeds {
         Ok(follower)
     }
 
-    /// Sends each follower what it has room for, as `Feed::send`, and lets the feeds go whose followers are gone.
+    /// Sends each follower what its ring has room for, as `Feed::send`, and drops feeds whose followers are gone.
     ///
     /// # Errors
-    /// `AllocError` if allocation fails: what isn't sent yet goes at the next call.
+    /// `AllocError` if allocation fails: what isn't sent yet is sent by the next call.
     pub fn send(&mut self, alloc: Global, document: &Document) -> Result<(), AllocError>
         ensures { (G : List TheEntry) → BeginsWith document.now.entries G
             → AreFed G self.old.feeds.items → AreFed document.now.entries self.new.feeds.items }
@@ -59,7 +59,7 @@ impl Feeds {
     }
 }
 
-/// What a follower shows is the beginning of the history of the document whose feeds these are, whenever whoever has both looks, as
+/// What a follower shows is the beginning of the history of the document whose feeds these are, whenever the owner of both looks, as in
 /// `follower_shows_a_beginning`: one of the feeds has the other end of the follower's ring.
 pub fn each_follower_shows_a_beginning(feeds: &mut Feeds, at: usize, follower: &mut Follower)
     requires pair { HasEnd feeds.old.feeds.items at follower.old }
@@ -69,7 +69,7 @@ pub fn each_follower_shows_a_beginning(feeds: &mut Feeds, at: usize, follower: &
     follower_shows_a_beginning(&mut feeds.feeds[at], follower);
 }
 
-/// Sends each follower what it has room for.
+/// Sends each follower what its ring has room for.
 ///
 /// # Errors
 /// As `Feeds::send`.
@@ -82,7 +82,7 @@ fn send_all(alloc: Global, feeds: &mut [Feed], document: &Document) -> Result<()
     Ok(())
 }
 
-/// Lets the feeds go whose followers are gone: of several some, and the others at the next call.
+/// Drops feeds whose followers are gone. If there are several, some may be left for the next call.
 fn let_abandoned_go(feeds: &mut Vec<Feed>)
     ensures { (G : List TheEntry) → AreFed G feeds.old.items → AreFed G feeds.new.items }
 {
@@ -91,7 +91,7 @@ fn let_abandoned_go(feeds: &mut Vec<Feed>)
     }
 }
 
-/// Lets the feed at a position go, if there is one, and its follower is gone.
+/// Drops the feed at a position, if there is one and its follower is gone.
 fn let_go_at(feeds: &mut Vec<Feed>, index: usize)
     ensures { (G : List TheEntry) → AreFed G feeds.old.items → AreFed G feeds.new.items }
 {

@@ -12,11 +12,11 @@ use document::{Document, Entry};
 use rtrb::Producer;
 use std::alloc::{AllocError, Global};
 
-/// The writer's end of a ring: what goes to one follower of its document.
+/// The writer's end of a ring, which sends to one follower of its document.
 #[derive(Drop)]
 pub struct Feed {
     pub(crate) to: Producer<Entry>,
-    /// Entries for which the ring had no room, the newest first.
+    /// Entries that the ring had no room for, the newest first.
     ahead: Vec<Entry>,
     /// How many entries were sent, or are ahead.
     next: usize,
@@ -35,11 +35,11 @@ impl Feed {
         }
     }
 
-    /// Sends the entries of this document from where it stopped, the oldest first, as many as the ring has room for. The others go at the
-    /// next call. Where a feed is given one document, as it grows, what was sent is the beginning of its history.
+    /// Sends the entries of this document from where it stopped, the oldest first, as many as the ring has room for. The next call sends
+    /// the others. If a feed is always given the same document as it grows, what was sent is the beginning of its history.
     ///
     /// # Errors
-    /// `AllocError` if allocation fails: what isn't sent yet goes at the next call.
+    /// `AllocError` if allocation fails: what isn't sent yet is sent by the next call.
     pub fn send(&mut self, alloc: Global, document: &Document) -> Result<(), AllocError>
         ensures fed { (G : List TheEntry) → BeginsWith document.now.entries G
             → IsFedFrom G self.old.next self.old.ahead.items (sent self.old.to)
@@ -54,7 +54,7 @@ impl Feed {
         Ok(())
     }
 
-    /// Whether the follower is gone, so that nobody takes in what is sent. No contract speaks of the answer.
+    /// Whether the follower is gone, so that nobody takes in what is sent. No contract says anything of the result.
     pub fn is_abandoned(&mut self) -> bool
         ensures ring { SameProducer self.old.to self.new.to }
         ensures same { (sent self.new.to ≡ sent self.old.to) × (self.new.ahead ≡ self.old.ahead) × (self.new.next ≡ self.old.next) }
@@ -62,7 +62,7 @@ impl Feed {
         self.to.is_abandoned()
     }
 
-    /// Puts what is new in the document ahead, where nothing is.
+    /// Puts the document's new entries ahead, if none are.
     fn look_ahead(&mut self, alloc: Global, document: &Document) -> Result<(), AllocError>
         requires { self.old.ahead.items ≡ [] }
         ensures fed { IsFedFrom document.now.entries self.old.next [] (sent self.old.to)
@@ -76,7 +76,7 @@ impl Feed {
         Ok(())
     }
 
-    /// Sends of what is ahead as much as the ring has room for.
+    /// Sends as much of what is ahead as the ring has room for.
     fn push(&mut self)
         ensures same { map entry_of self.new.ahead.items ++ history (sent self.new.to)
             ≡ map entry_of self.old.ahead.items ++ history (sent self.old.to) }

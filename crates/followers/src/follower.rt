@@ -17,17 +17,17 @@ use ids::Refusal;
 use rtrb::Consumer;
 use std::alloc::Global;
 
-/// The reader's end of a ring: a document of what came through it, which may go to another thread than the feed.
+/// The reader's end of a ring: a document of what came through it. It may be on another thread than the feed.
 #[derive(Drop)]
 pub struct Follower {
     document: Document,
     pub(crate) from: Consumer<Entry>,
-    /// An entry that came, and couldn't be taken in yet.
+    /// An entry that came but couldn't be taken in yet.
     kept: Option<Entry>,
 }
 
 impl Follower {
-    /// A follower that has taken nothing in.
+    /// A follower that has taken in nothing.
     pub(crate) fn new(document: Document, from: Consumer<Entry>) -> Follower
         requires { (document.entries ≡ []) × (received from ≡ []) }
         ensures { (result.document ≡ document) × (result.from ≡ from) × (result.kept ≡ None) }
@@ -39,7 +39,7 @@ impl Follower {
         }
     }
 
-    /// The document of what was taken in, of which questions and glances are asked.
+    /// The document of what was taken in, for questions and glances.
     pub fn document(&self) -> &Document
         ensures { result.now ≡ self.now.document }
     {
@@ -53,7 +53,7 @@ impl Follower {
         self.document.len()
     }
 
-    /// Takes in the oldest entry that has come and wasn't taken in. Returns whether there was one.
+    /// Takes in the oldest entry that has come and isn't taken in yet. Returns whether there was one.
     ///
     /// # Errors
     /// `NoReading` if its operation can't follow the history here, which a feed of one document never sends; `NoMemory` if allocation
@@ -78,7 +78,7 @@ impl Follower {
         }
     }
 
-    /// The entry that is kept, else the next of the ring.
+    /// The entry that is kept, else the next one from the ring.
     fn next_entry(&mut self) -> Option<Entry>
         ensures same { self.new.document ≡ self.old.document }
         ensures kept { self.new.kept ≡ None }
@@ -93,7 +93,7 @@ impl Follower {
     }
 }
 
-/// Puts an entry where none is.
+/// Keeps an entry, where none was kept.
 fn keep(kept: &mut Option<Entry>, entry: Entry)
     ensures { kept.new ≡ Some entry }
 {
@@ -115,7 +115,7 @@ fn take_in(alloc: Global, document: &mut Document, entry: Entry) -> Result<(), (
     append(alloc, document, entry)
 }
 
-/// Whether the operation passes every test of a received one: a follower can't rest on the promise of whoever has the feed.
+/// Whether the operation passes every test of a received one: a follower can't rely on what the owner of the feed sends.
 fn is_lawful(document: &Document, op: &Op) -> bool
     ensures tests { result ≡ is_lawful document.now.members document.now.entries op.now }
     ensures lawful { IsTrue result → MayFollow (applied document.now.entries) (stamped_of op.now) }

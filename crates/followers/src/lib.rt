@@ -1,7 +1,7 @@
-//! Readers that follow a history: each has a document of its own, on a thread of its own, and waits for nobody.
+//! Readers that follow a history: each has its own document on its own thread, and waits for nobody.
 //!
-//! The writer sends the entries of its document by a `Feed`, through a ring of a fixed room, and the `Follower` at the other end takes
-//! them in, one at a time. Entries share their operations, so what is kept for a follower is its content alone.
+//! The writer sends the entries of its document by a `Feed`, through a ring of fixed capacity, and the `Follower` at the other end takes
+//! them in one at a time. Entries share their operations, so all that a follower keeps of its own is its content.
 #![tactic(auto)]
 
 ghost use Rattle.std.specs.Prelude.{◌≡◌, ◌∷◌, List, [], None, IfOk};
@@ -22,11 +22,11 @@ use ids::Refusal;
 use rtrb::RingBuffer;
 use std::alloc::Global;
 
-/// The two ends of a new ring with room for so many entries: a feed that has sent nothing, and a follower with an empty history, whose
-/// only member is the writer's number.
+/// The two ends of a new ring with room for `room` entries: a feed that has sent nothing, and a follower with an empty history, whose only
+/// member is the writer's number.
 ///
 /// # Errors
-/// `BadConfig` for the number 0, else `NoMemory` if allocation fails, or for a room that no memory has.
+/// `BadConfig` for the number 0, else `NoMemory` if allocation fails, as it must for a room beyond any memory.
 pub fn new_ends(alloc: Global, room: usize, own: u32) -> Result<(Feed, Follower), Refusal>
     ensures pair { IfOk result (λ r. IsPair r.0.to r.1.from) }
     ensures fed { IfOk result (λ r. IsFedFrom [] r.0.next r.0.ahead.items (sent r.0.to)) }
@@ -39,9 +39,9 @@ pub fn new_ends(alloc: Global, room: usize, own: u32) -> Result<(Feed, Follower)
     Ok((Feed::new(alloc, to), Follower::new(document, from)))
 }
 
-/// What a follower shows is the beginning of the history of the document that feeds it, whenever whoever has both ends looks. That feed and
-/// follower are the ends of one ring, that the feed was fed by one document, and that the follower took in what came, holds of `new_ends`,
-/// and `send` and `take_in` keep it.
+/// What a follower shows is the beginning of the history of the document that feeds it, whenever the owner of both ends looks. The
+/// preconditions are that feed and follower are the ends of one ring, that the feed was fed from one document, and that the follower took
+/// in what came: `new_ends` ensures them, and `send` and `take_in` preserve them.
 pub fn follower_shows_a_beginning(feed: &mut Feed, follower: &mut Follower)
     requires pair { IsPair feed.old.to follower.old.from }
     requires follows { IsFollowing follower.old.document.entries follower.old.kept (received follower.old.from) }

@@ -1,4 +1,4 @@
--- Two canonical vectors with the same counters are one.
+-- Two canonical vectors with the same counters are the same.
 use Rattle.std.proofs.Common.{◌≡◌, ◌⊎◌, inl, inr, ℕ, ◌<◌, ◌≤◌, max, ◌==◌, [], ◌∷◌, refl, sym, ap, ◌∙◌, arith}
 use Rattle.std.proofs.lemmas.Bool.{eq-eqb, ne_eqb, cond-true, cond-false}
 use Rattle.ids.specs.Ids.{OpId}
@@ -24,7 +24,7 @@ at_later a v q lt = cond-false (a.replica == q) _ _ (ne_eqb a.replica q (λ e. a
 order_cases : (m n : ℕ) → (m < n) ⊎ ((m ≡ n) ⊎ (n < m))
 order_cases m n = grind arith
 
--- two canonical vectors with the same counters are one
+-- two canonical vectors with the same counters are the same
 pub same_vectors : (u v : Vector) → IsCanonical u → IsCanonical v → ((p : ℕ) → at u p ≡ at v p) → u ≡ v
 same_vectors [] [] cu cv h = refl
 same_vectors [] (b ∷ v) cu cv h = absurd (cv.0 (sym (at_first b v cv.1) ∙ sym (h b.replica)))

@@ -1,4 +1,4 @@
--- A canonical vector names no more replicas than there are numbers that its replicas are of.
+-- A canonical vector names no more replicas than a list has that has them all.
 use Rattle.std.proofs.Common.{◌≡◌, ◌≢◌, ◌≤◌, ◌<◌, ◌||◌, ◌==◌, not, ℕ, suc, Bool, true, false, cond, List, [], ◌∷◌, length, refl, sym}
 use Rattle.std.proofs.Common.{◌∙◌, arith, true≢false}
 use Rattle.std.specs.List.{filter}

@@ -1,4 +1,4 @@
--- Numbers put in order: nothing is lost, and different numbers rise.
+-- Numbers put in order: nothing is lost, and distinct numbers are in ascending order.
 use Rattle.std.proofs.Common.{◌≡◌, ℕ, suc, ◌+◌, ◌<◌, ◌≤◌, Bool, true, false, not, ◌||◌, eqb, ltb, IsTrue, IsFalse, ◌⊎◌, inl, inr, List, []}
 use Rattle.std.proofs.Common.{◌∷◌, length, refl, ◌∙◌, ap, arith}
 use Rattle.std.specs.Prelude.{⊤}

@@ -50,7 +50,7 @@ AreFrom-last : (n m : ℕ) (xs : List ℕ) → AreFrom n xs → n ≤ m → AreF
 AreFrom-last n m [] from le = (le, tt)
 AreFrom-last n m (x ∷ xs) from le = (from.0, AreFrom-last n m xs from.1 le)
 
--- a greatest number behind
+-- a greatest number at the end
 pub rises-last : (m : ℕ) (xs : List ℕ) → Rises xs → AreTo m xs → Rises (xs ++ m ∷ [])
 rises-last m [] rises to = (tt, tt)
 rises-last m (x ∷ xs) rises to = (AreFrom-last x m xs rises.0 to.0, rises-last m xs rises.1 to.1)

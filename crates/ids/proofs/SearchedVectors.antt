@@ -1,4 +1,4 @@
--- What a search in a vector finds, and a vector with one more replica behind.
+-- What a search in a vector finds, and a vector with one more replica at the end.
 use Rattle.std.proofs.Common.{◌≡◌, ◌≢◌, ℕ, zero, suc, ◌<◌, ◌≤◌, ◌==◌, [], ◌∷◌, ◌++◌, length, drop, ◌&&◌, get_or, Result, Ok, Err}
 use Rattle.std.proofs.Common.{Less, Greater, false, inl, inr, refl, sym, ap, ◌∙◌, arith, tests}
 use Rattle.std.specs.List.Sorted.{IsBinarySearchResult}
@@ -25,7 +25,7 @@ at_index (a ∷ v) h zero d l = at_first a v h.1
 at_index (a ∷ v) h (suc k) d l =
     at_later a v (get_or v k d).replica (above_at a.replica v h.1 k d (omega arith)) ∙ at_index v h.2 k d (omega arith)
 
--- a replica that stands nowhere
+-- a replica that isn't named
 absent : (v : Vector) (p : ℕ) → ((k : ℕ) (d : OpId) → k < length v → (get_or v k d).replica ≢ p) → at v p ≡ 0
 absent [] p h = refl
 absent (a ∷ v) p h = cond-false (a.replica == p) _ _ (ne_eqb a.replica p (h zero a (omega arith)))
@@ -42,7 +42,7 @@ rising (a ∷ v) h (suc i) (suc j) d le l = rising v h.2 i j d (omega arith) (om
 higher : (p a b : ℕ) → a ≤ b → ordering_index (nat_cmp a p) ≤ ordering_index (nat_cmp b p)
 higher p a b le = grind (arith, tests)
 
--- what stands at a position is what is named of its replica
+-- what stands at a position is what is named for its replica
 pub named_there : (v : Vector) → IsCanonical v → (k : ℕ) (d : OpId) (p : ℕ) → k < length v → (get_or v k d).replica ≡ p
     → at v p ≡ (get_or v k d).counter
 named_there v h k d p l e = ap (at v) (sym e) ∙ at_index v h k d l
@@ -67,7 +67,7 @@ searched_place v p h (Err i) found =
       λ d l. ranked (get_or v i d).replica p Greater (sym (parted.1 i d (omega arith) l)),
     )
 
--- a search by replica finds what the vector names of it
+-- a search by replica finds what the vector names for it
 pub searched_vector : (v : Vector) (p : ℕ) → IsCanonical v → (r : Result ℕ ℕ) → IsBinarySearchResult (λ (a : OpId). nat_cmp a.replica p) v r
     → MatchResult r (λ i. i < length v → (d : OpId) → at v p ≡ (get_or v i d).counter) (λ i. at v p ≡ 0)
 searched_vector v p h (Ok i) found = λ l d. named_there v h i d p l (searched_place v p h (Ok i) found d)

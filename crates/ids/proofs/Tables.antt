@@ -25,7 +25,7 @@ all_above_zero (p ∷ ps) h =
     let parts = and_parts (leb 1 p) (list_all (λ p. leb 1 p) ps) h in let l : 1 ≤ p = leb-true 1 p parts.0 in
     (omega arith, all_above_zero ps parts.1)
 
--- members are different
+-- members are distinct
 pub distinct_members : (ps : List ℕ) → IsTrue (are_members ps) → AreDistinct ps
 distinct_members ps h =
     distinct_from_test ps (and_parts (is_from_one_to 64 (length ps) && list_all (λ p. leb 1 p) ps) (are_distinct ps) h).1
@@ -35,7 +35,7 @@ all_above p [] h k l = absurd (omega arith)
 all_above p (q ∷ ps) h zero l = h.0
 all_above p (q ∷ ps) h (suc k) l = all_above p ps h.1 k (omega arith)
 
--- members in order: different, few, and above 0
+-- members in order: distinct, few, and above 0
 pub ordered_distinct : (ps : List ℕ) → IsTrue (are_members ps) → AreDistinct (in_order ps)
 ordered_distinct ps h = AreDistinct-in_order ps (distinct_members ps h)
 
@@ -52,7 +52,7 @@ ordered_above_zero ps h =
     let rest = and_parts (is_from_one_to 64 (length ps)) (list_all (λ p. leb 1 p) ps) parts.0 in
     all_above 0 (in_order ps) (IsBelowAll-in_order 0 ps (all_above_zero ps rest.1))
 
--- ---- who stands where
+-- ---- where each replica stands
 
 pub member_from : (ps : List ℕ) (k p : ℕ) → slice_get ps k ≡ Some p → IsTrue (is_member ps p)
 member_from [] k p h = absurd (cc)
@@ -66,7 +66,7 @@ member_at (q ∷ ps) p h = elim (or_cases (q == p) (is_member ps p) h) [
   | inr m ↦ (let there = member_at ps p m in (suc there.0, there.1))
 ]
 
--- of different numbers none stands before itself
+-- of distinct numbers none stands before itself
 pub distinct_before : (ps : List ℕ) → AreDistinct ps → (k d : ℕ) → k < length ps → is_member (take k ps) (get_or ps k d) ≡ false
 distinct_before [] h k d l = absurd (omega arith)
 distinct_before (p ∷ ps) h zero d l = refl
@@ -156,15 +156,15 @@ table_joined ps v p t new few = record {
 
 -- ---- room
 
--- who isn't in the table, and lacks no room, has it
+-- a replica that isn't in the table, and doesn't lack room, has room
 pub has_room : (ps : List ℕ) (p : ℕ) → is_member ps p ≡ false → lacks_room ps p ≡ false → length ps < most_named
 has_room ps p new fits = leb-false most_named (length ps) (sym (ap (λ b. not b && leb most_named (length ps)) new) ∙ fits)
 
--- a member lacks no room
+-- a member doesn't lack room
 pub member_fits : (ps : List ℕ) (p : ℕ) → is_member ps p ≡ true → lacks_room ps p ≡ false
 member_fits ps p m = ap (λ b. not b && leb most_named (length ps)) m
 
--- who was in the table stays there, and who joins is there
+-- a replica in the table stays there, and one that joins is there
 pub member_joined : (p : ℕ) (ps : List ℕ) (q : ℕ) → is_member ps q ≡ true → is_member (joined p ps) q ≡ true
 member_joined p ps q m = by (is_member ps p)
   where
@@ -180,7 +180,7 @@ joined_itself p ps = by (is_member ps p) refl
     by false e = list_any-append (λ x. x == p) ps (p ∷ [])
         ∙ or_right (is_member ps p) ((p == p) || false) (or_left (p == p) false (eq-eqb p p refl))
 
--- nothing is before what joins but what was there
+-- before the replica that joins is only what was there
 pub joined_place : (p : ℕ) (ps : List ℕ) (k q : ℕ) → slice_get ps k ≡ Some q → slice_get (joined p ps) k ≡ Some q
 joined_place p ps k q h = by (is_member ps p)
   where
@@ -204,7 +204,7 @@ names_joined p ps (a ∷ v) h =
     and_from (is_member (joined p ps) a.replica) (names_only (joined p ps) v) (member_joined p ps a.replica parts.0)
     (names_joined p ps v parts.1)
 
--- who joins is another number
+-- the replica that joins has another number
 pub distinct_joined : (p : ℕ) (ps : List ℕ) → AreDistinct ps → AreDistinct (joined p ps)
 distinct_joined p ps d = by (is_member ps p) refl
   where

@@ -1,4 +1,4 @@
--- What an engine is opened with, and the limits of that.
+-- What an engine is opened with, and its limits.
 use Rattle.std.specs.Prelude.{ℕ, Bool, ◌&&◌, nat_le, List, length}
 use Rattle.std.specs.List.{list_all}
 use Rattle.ids.specs.Members.{is_member, are_distinct}
@@ -22,11 +22,11 @@ most_queue = 65536
 abbrev pub is_from_one_to : ℕ → ℕ → Bool
 is_from_one_to limit n = nat_le 1 n && nat_le n limit
 
--- from 1 to 64 members, which are different numbers above 0
+-- from 1 to 64 members, which are distinct numbers above 0
 abbrev pub are_members : List ℕ → Bool
 are_members ps = is_from_one_to 64 (length ps) && list_all (λ p. nat_le 1 p) ps && are_distinct ps
 
--- the own number is a member's, and each number is within its limit
+-- the own number is a member, and each number is within its limit
 abbrev pub is_within_limits : Configuration → Bool
 is_within_limits c =
     are_members c.members && is_member c.members c.own

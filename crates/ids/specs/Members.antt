@@ -6,7 +6,7 @@ use Rattle.std.specs.List.{list_any}
 abbrev pub is_member : List ℕ → ℕ → Bool
 is_member ps p = list_any (λ q. q == p) ps
 
--- no number stands twice
+-- no number occurs twice
 abbrev pub AreDistinct : List ℕ → Type 0
 AreDistinct [] = ⊤
 AreDistinct (p ∷ ps) = (IsTrue (is_member ps p) → ⊥) × AreDistinct ps
@@ -21,11 +21,11 @@ abbrev pub put_number : ℕ → List ℕ → List ℕ
 put_number p [] = p ∷ []
 put_number p (q ∷ ps) = cond (nat_lt p q) (p ∷ q ∷ ps) (q ∷ put_number p ps)
 
--- the numbers of both, where the first rise
+-- the numbers of both, in ascending order if the first are
 abbrev pub put_all : List ℕ → List ℕ → List ℕ
 put_all table [] = table
 put_all table (p ∷ ps) = put_all (put_number p table) ps
 
--- the numbers, rising
+-- the numbers, in ascending order
 abbrev pub in_order : List ℕ → List ℕ
 in_order ps = put_all [] ps

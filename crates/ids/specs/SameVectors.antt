@@ -1,4 +1,4 @@
--- When two vectors are one.
+-- When two vectors are the same.
 use Rattle.std.specs.Cmp.{IsEquivalence, IsTotalOrder, eq_by_cmp_equiv, nat_cmp_total, on_total, then_total}
 use Rattle.std.specs.Cmp.Lexicographic.{lists_equiv, pointwise}
 use Rattle.ids.specs.Ids.{OpId, id_cmp, is_same_id}

@@ -8,7 +8,7 @@ pub record Table : Type 0 where
   pub numbers : List ℕ
   pub room : ℕ
 
--- p is behind the others, unless it is there
+-- p goes behind the others, unless it is there
 abbrev pub joined : ℕ → List ℕ → List ℕ
 joined p ps = cond (is_member ps p) ps (ps ++ p ∷ [])
 
@@ -16,7 +16,7 @@ joined p ps = cond (is_member ps p) ps (ps ++ p ∷ [])
 abbrev pub lacks_room : List ℕ → ℕ → Bool
 lacks_room ps p = not (is_member ps p) && nat_le most_named (length ps)
 
--- no number stands twice, there are at most 256, and the vector names of each its index plus 1, and nothing else
+-- no number occurs twice, there are at most 256, and the vector names for each its index plus 1, and nothing else
 pub record IsTable (numbers : List ℕ) (places : Vector) : Type 0 where
   pub distinct : AreDistinct numbers
   pub few : length numbers ≤ most_named

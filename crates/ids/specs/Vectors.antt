@@ -4,11 +4,11 @@ use Rattle.std.specs.List.{list_all}
 use Rattle.ids.specs.Ids.{OpId, IdSet, id_at}
 use Rattle.ids.specs.Members.{is_member}
 
--- the ids that are named, as a rule at most one of each replica
+-- the ids that are named, as a rule at most one for each replica
 abbrev pub Vector : Type 0
 Vector = List OpId
 
--- the counter named of a replica, 0 where there is none
+-- the counter named for a replica, 0 where there is none
 abbrev pub at : Vector → ℕ → ℕ
 at [] p = 0
 at (a ∷ v) p = cond (a.replica == p) (max a.counter (at v p)) (at v p)
@@ -18,7 +18,7 @@ abbrev pub greatest : Vector → ℕ
 greatest [] = 0
 greatest (a ∷ v) = max a.counter (greatest v)
 
--- the ids that v covers, held anywhere or not: a's counter is at most the one named of its replica
+-- the ids that v covers, held anywhere or not: a's counter is at most the one named for its replica
 abbrev pub covers : Vector → IdSet
 covers v a = nat_le a.counter (at v a.replica)
 
@@ -26,7 +26,7 @@ covers v a = nat_le a.counter (at v a.replica)
 abbrev pub is_at_most : Vector → Vector → Bool
 is_at_most u v = list_all (covers v) u
 
--- the vector in which a's replica has at least a's counter, with the replicas in their order
+-- the vector in which a's replica has at least a's counter, with the replicas in ascending order
 abbrev pub raise : OpId → Vector → Vector
 raise a [] = a ∷ []
 raise a (b ∷ v) =
@@ -47,12 +47,12 @@ abbrev pub AreAbove : ℕ → Vector → Type 0
 AreAbove p [] = ⊤
 AreAbove p (a ∷ v) = (p < a.replica) × AreAbove p v
 
--- the one form in which a vector is answered: replicas rise, and no counter is 0
+-- the one form in which a vector is answered: replicas in ascending order, and no counter is 0
 abbrev pub IsCanonical : Vector → Type 0
 IsCanonical [] = ⊤
 IsCanonical (a ∷ v) = (a.counter ≢ 0) × AreAbove a.replica v × IsCanonical v
 
--- how many replicas a vector that is kept or sent names at most
+-- the most replicas that a vector that is kept or sent names
 abbrev pub most_named : ℕ
 most_named = 256
 

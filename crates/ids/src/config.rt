@@ -27,7 +27,7 @@ pub struct Config {
     /// The most submissions that one step of the writer takes and publishes, from 1 to 256.
     pub batch: u32,
     /// How many serials each client has in its whole life, at least 1: a command takes one, and so does each received operation. A high
-    /// bound costs nothing: `u32::MAX` unless one is wanted. What was submitted under a serial is kept for good.
+    /// bound costs nothing, so use `u32::MAX` unless you want a limit. What was submitted under a serial is kept for good.
     pub serials: u32,
 }
 
@@ -51,7 +51,7 @@ impl Config {
     /// Tests whether an engine may be opened with this configuration. Compares at most 2,080 pairs of numbers, and allocates nothing.
     ///
     /// # Errors
-    /// `BadConfig` if a number is outside its limits, a member stands twice, or the own number isn't a member.
+    /// `BadConfig` if a number is outside its limits, a member occurs twice, or the own number isn't a member.
     pub fn check(&self) -> Result<(), Refusal>
         ensures { MatchResult result (λ _. IsTrue (is_within_limits self.now))
             (λ why. (why ≡ BadConfig) × IsFalse (is_within_limits self.now)) }

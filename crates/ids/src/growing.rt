@@ -8,8 +8,8 @@ use crate::named_vector::greatest_counter;
 use std::alloc::{AllocError, Global};
 use std::marker::Model;
 
-/// Of each replica that it names the greatest counter, which is above 0: as that of all that was applied. Contracts see the pairs as ids,
-/// whose replicas rise, and for how many more replicas there is room.
+/// The greatest counter, above 0, of each replica that it names. The vector of all that was applied is one. Contracts see the pairs as ids,
+/// in ascending order of replica, and for how many more replicas there is room.
 #[derive(Debug, Drop)]
 pub struct GrowingVector {
     ids: Vec<OpId>,
@@ -45,7 +45,7 @@ impl GrowingVector {
         self.ids.as_slice()
     }
 
-    /// The greatest counter, 0 where nothing is named. Looks at each.
+    /// The greatest counter, 0 if nothing is named. Looks at each pair.
     pub fn greatest(&self) -> u64
         ensures { result ≡ greatest self.now.ids }
     {
@@ -64,8 +64,8 @@ impl GrowingVector {
         self.ids.reserve(1)
     }
 
-    /// Raises the counter of the id's replica to the id's, unless it is greater already; a replica that isn't named yet comes to stand
-    /// in its place. Binary search. Allocates nothing.
+    /// Raises the counter of the id's replica to the id's, unless it is greater already; a replica that isn't named yet is inserted in
+    /// order. Binary search. Allocates nothing.
     pub fn raise(&mut self, id: OpId)
         requires counted { 0 < id.counter }
         requires room { 0 < self.old.room }

@@ -1,5 +1,4 @@
-//! What every other crate speaks of: the ids of operations, tables of replicas, why a call is refused, and the configuration of
-//! an engine.
+//! What every other crate uses: the ids of operations, tables of replicas, the refusals of calls, and the configuration of an engine.
 #![tactic(auto)]
 
 mod config;

@@ -12,10 +12,11 @@ use crate::{OpId, ReplicaId};
 use std::alloc::{AllocError, Global};
 use std::marker::Model;
 
-/// How many replicas a vector names at most.
+/// The most replicas that a vector names.
 pub const MOST_NAMED: usize = 256;
 
-/// Of each replica that it names the greatest counter, which is above 0: at most 256 pairs, whose replicas rise. Contracts see them as ids.
+/// The greatest counter, above 0, of each replica that it names: at most 256 pairs, in ascending order of replica. Contracts see them as
+/// ids.
 #[derive(Debug, Drop)]
 pub struct NamedVector {
     ids: Vec<OpId>,
@@ -66,10 +67,10 @@ impl NamedVector {
         })
     }
 
-    /// Names one more replica, above all that are named.
+    /// Names one more replica, which is greater than all that are named.
     ///
     /// # Errors
-    /// `AllocError` if allocation fails. The vector is as before then.
+    /// `AllocError` if allocation fails. The vector then stays as it was.
     pub fn push(&mut self, id: OpId) -> Result<(), AllocError>
         requires counted { 0 < id.counter }
         requires above { AreBelow id.replica self.old }
@@ -88,28 +89,28 @@ impl NamedVector {
         self.ids.as_slice()
     }
 
-    /// The counter that is named of a replica, 0 if it isn't named. Binary search.
+    /// The counter named for a replica, 0 if it isn't named. Binary search.
     pub fn at(&self, replica: ReplicaId) -> u64
         ensures { result ≡ at self.now replica }
     {
         counter_of(self.ids.as_slice(), replica)
     }
 
-    /// Whether the vector covers an id: its counter is at most the one that is named of its replica. Binary search.
+    /// Whether the vector covers an id: its counter is at most the one named for its replica. Binary search.
     pub fn covers(&self, id: OpId) -> bool
         ensures { result ≡ covers self.now id }
     {
         id.counter <= self.at(id.replica)
     }
 
-    /// The greatest counter, 0 where nothing is named. Looks at each.
+    /// The greatest counter, 0 if nothing is named. Looks at each pair.
     pub fn greatest(&self) -> u64
         ensures { result ≡ greatest self.now }
     {
         greatest_counter(self.ids.as_slice())
     }
 
-    /// Whether each counter is at most the one that these pairs name of its replica. One look for each while both name the same
+    /// Whether each counter is at most the one that these pairs name for its replica. One comparison for each while both name the same
     /// replicas, else a binary search.
     pub fn is_at_most(&self, others: &[OpId]) -> bool
         requires { IsCanonical others.now }
@@ -124,7 +125,7 @@ impl NamedVector {
     }
 }
 
-/// The greatest counter of these pairs, 0 where there is none. Looks at each.
+/// The greatest counter of these pairs, 0 if there are none. Looks at each.
 pub fn greatest_counter(ids: &[OpId]) -> u64
     ensures { result ≡ greatest ids.now }
 {
@@ -135,7 +136,7 @@ pub fn greatest_counter(ids: &[OpId]) -> u64
     most
 }
 
-/// The counter that these pairs name of a replica, 0 if none does. Binary search.
+/// The counter that these pairs name for a replica, 0 if none does. Binary search.
 pub fn counter_of(ids: &[OpId], replica: ReplicaId) -> u64
     requires { IsCanonical ids.now }
     ensures { result ≡ at ids.now replica }
@@ -146,8 +147,8 @@ pub fn counter_of(ids: &[OpId], replica: ReplicaId) -> u64
     }
 }
 
-/// The counter that these pairs name of a replica, 0 if none does. Looks at this position first, where the pair stands if as many
-/// replicas are named below it; else binary search.
+/// The counter that these pairs name for a replica, 0 if none does. Tries this position first, which is right if that many smaller replicas
+/// are named; else binary search.
 pub fn counter_near(ids: &[OpId], position: usize, replica: ReplicaId) -> u64
     requires { IsCanonical ids.now }
     ensures { result ≡ at ids.now replica }

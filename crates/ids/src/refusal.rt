@@ -38,11 +38,11 @@ pub enum Refusal {
     UnknownReplica = 13,
     /// The counter isn't 1 plus the greatest of the vector.
     BadCounter = 14,
-    /// The own counter of the vector isn't the greatest that was applied.
+    /// The vector's counter for the operation's own replica isn't the greatest that was applied.
     BrokenChain = 15,
     /// A counter in the vector that is above 0 is that of no applied operation.
     NamesNothing = 16,
-    /// An operation that the vector names has a vector that isn't at most this.
+    /// An operation that the vector names has a vector that isn't at most this one.
     NotClosed = 17,
     /// An assign or a delete at a head, or an item of the place that the vector doesn't cover or that was never inserted into that list.
     BadPlace = 18,

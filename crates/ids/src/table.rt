@@ -14,12 +14,12 @@ use crate::{MOST_NAMED, OpId, Refusal, ReplicaId};
 use std::alloc::{AllocError, Global};
 use std::marker::Model;
 
-/// The replicas of a document: at most 256 distinct numbers, each with its index. First come the members that the table was made of,
-/// rising, and then others in the order in which they joined. Contracts see the numbers, and for how many more there is room.
+/// The replicas of a document: at most 256 distinct numbers, each with its index. First come the members that the table was made of, in
+/// ascending order, and then others in the order in which they joined. Contracts see the numbers, and for how many more there is room.
 #[derive(Debug, Drop)]
 pub struct ReplicaTable {
     replicas: Vec<ReplicaId>,
-    /// Of each replica its index plus 1, as a vector names counters: so that a search needs no order of the replicas.
+    /// Each replica with its index plus 1, as a vector holds counters, so that a binary search works whatever the order of the table.
     places: GrowingVector,
 }
 
@@ -106,7 +106,7 @@ impl ReplicaTable {
         self.places.reserve_one()
     }
 
-    /// Takes in a replica that isn't in the table, behind the others. Returns its index. Allocates nothing.
+    /// Appends a replica that isn't in the table. Returns its index. Allocates nothing.
     pub fn join(&mut self, replica: ReplicaId) -> usize
         requires new { is_member self.old.numbers replica ≡ false }
         requires few { length self.old.numbers < most_named }

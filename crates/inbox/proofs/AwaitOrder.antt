@@ -160,7 +160,7 @@ module _ (r rest : List Awaited) (next : Awaited) (is : r ≡ next ∷ rest) (ri
   pub next_or_left : (q : Awaited) → IsAmong q r → (q ≡ next) ⊎ IsAmong q rest
   next_or_left q m = subst (IsAmong q) is m
 
--- of one replica counters rise
+-- the counters of one replica are in ascending order
 pub counter_rises : (a b : Awaited) → is_gt (await_cmp a b) ≡ false → a.replica ≡ b.replica → a.counter ≤ b.counter
 counter_rises a b h same =
     number_rises a.counter b.counter (nat_cmp a.key b.key)

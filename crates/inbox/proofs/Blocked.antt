@@ -30,7 +30,7 @@ pub ready_at : (H : List Operation) (o : Op) → is_ready H (stamped_of o) ≡ t
     → a.counter ≤ greatest_counter H a.replica
 ready_at H o ready i a there = each_at_most (greatest_counter H) o.deps ready i a there
 
--- what is named of a replica stands at a position
+-- what is named for a replica stands at a position
 pub position_at : (v : Vector) (p : ℕ) → at v p ≢ 0 → (j : ℕ) × (b : OpId) × (slice_get v j ≡ Some b) × (b.replica ≡ p)
 position_at [] p n = absurd (n refl)
 position_at (b ∷ v) p n = at_test (position_at v p) (b.replica == p) refl n

@@ -347,7 +347,7 @@ unblocked s es w k o stands h may q held at = at_found (find id_cmp o.id w.ready
         = sym (h.by_id n it.op it.stands) ∙ ap (λ x. find id_cmp x es) it.id ∙ h.by_id k o stands in
         it.none q held (at ∙ sym (same_some one))
 
--- and what may not be waits for a counter
+-- and what isn't among those that may be ready waits for a counter
 pub blocked : (s : Slab Op) (es : List (OpId × ℕ)) (w : Waits) (k : ℕ) (o : Op) → get s k ≡ Some o → AreAwaiting s es w
     → is_some (find id_cmp o.id w.ready.entries) ≡ false → IsAwaiting w.awaits k o
 blocked s es w k o stands h none = elim (h.each k o stands) [

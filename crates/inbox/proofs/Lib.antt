@@ -7,7 +7,7 @@ pub mod KeptAwaits
 pub mod KeptOps
 pub mod MovedAwaits
 pub mod Ready
--- Handed on from the crates below, for users of this one.
+-- Re-exported from the crates below, for users of this one.
 pub use Rattle.document.proofs.version
 pub use Rattle.document.proofs.operation
 pub use Rattle.document.proofs.oplog

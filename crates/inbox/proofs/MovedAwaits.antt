@@ -18,7 +18,7 @@ use Rattle.inbox.specs.Awaiting.{IsEnteredReady}
 use Rattle.inbox.proofs.AwaitOrder.{same_await, itself}
 use Rattle.inbox.proofs.KeptAwaits.{is_awaited, put_here, put_keys, put_or_had, same_some, some_differs, stays, still_awaits, was_or_new}
 
--- o, which stands at the key of h, is entered anew, and h, whose counter is applied, is awaited no more
+-- o, which stands at the key of h, is entered anew, and h, whose counter is applied, is no longer awaited
 module _ (applied : Vector) (s : Slab Op) (es : List (OpId × ℕ)) (w v u : Waits) (h : Awaited) (o : Op) (here : get s h.key ≡ Some o)
     (was : contains await_cmp w.awaits h ≡ true) (met : h.counter ≤ at applied h.replica)
     (out : sorted.Updates await_cmp v.awaits u.awaits h false) (same_ready : u.ready ≡ v.ready) (same_seen : u.seen ≡ v.seen)

@@ -31,7 +31,7 @@ stamped_among [] s m = absurd m
 stamped_among (x ∷ ops) s (inl e) = (x, inl refl, e)
 stamped_among (x ∷ ops) s (inr m) = (let it = stamped_among ops s m in (it.0, inr it.1, it.2))
 
--- where none is ready, there is no first ready one
+-- if none is ready, there is no first ready one
 pub none_first : (H : List Operation) (ops : List Op) → AreNotReady H ops
     → first_ready H (waiting_in ops) ≡ None
 none_first H [] h = refl

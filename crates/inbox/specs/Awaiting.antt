@@ -31,11 +31,11 @@ pub record IsAwaiting (awaits : BTreeSet Awaited) (k : ℕ) (o : Op) : Type 0 wh
   pub there : slice_get o.deps index ≡ Some id
   pub held : contains await_cmp awaits (awaited_by id k) ≡ true
 
--- no two are awaited by what stands at one key
+-- no two counters are awaited by the operation at one key
 abbrev pub AreSingle : BTreeSet Awaited → Type 0
 AreSingle awaits = (p q : Awaited) → contains await_cmp awaits p ≡ true → contains await_cmp awaits q ≡ true → p.key ≡ q.key → p ≡ q
 
--- at most one is awaited by what stands at each key, and none where nothing stands
+-- at most one counter is awaited by the operation at each key, and none where there is no operation
 pub record AreOnly (s : Slab Op) (awaits : BTreeSet Awaited) : Type 0 where
   pub stands : (q : Awaited) → contains await_cmp awaits q ≡ true → get s q.key ≢ None
   pub single : AreSingle awaits
@@ -48,7 +48,7 @@ seen_at v p = at v.ids p
 abbrev pub AreUnseen : Waits → Type 0
 AreUnseen w = (q : Awaited) → contains await_cmp w.awaits q ≡ true → seen_at w.seen q.replica < q.counter
 
--- at k stands the operation with the id a, and nothing is awaited by it
+-- at k stands the operation with the id a, and it awaits nothing
 pub record IsUnblocked (s : Slab Op) (awaits : BTreeSet Awaited) (a : OpId) (k : ℕ) : Type 0 where
   pub op : Op
   pub stands : get s k ≡ Some op
@@ -91,11 +91,11 @@ pub record IsEnteredReady (old new : Waits) (k : ℕ) (o : Op) : Type 0 where
   pub ready : new.ready.entries ≡ put id_cmp o.id k old.ready.entries
   pub seen : new.seen ≡ old.seen
 
--- one of both
+-- one of the two
 abbrev pub IsEntered : Vector → Waits → Waits → ℕ → Op → Type 0
 IsEntered applied old new k o = IsEnteredAt applied old new k o ⊎ IsEnteredReady old new k o
 
--- the operation with the id a, which stood at k, waits for nothing any more, and isn't among those that may be ready
+-- the operation with the id a, which stood at k, no longer waits for anything, and isn't among those that may be ready
 pub record IsForgotten (old new : Waits) (a : OpId) (k : ℕ) : Type 0 where
   pub kept : (q : Awaited) → q.key ≢ k → contains await_cmp new.awaits q ≡ contains await_cmp old.awaits q
   pub gone : (q : Awaited) → contains await_cmp new.awaits q ≡ true → q.key ≢ k
@@ -107,7 +107,7 @@ abbrev pub is_ready_if : List Operation → Option Op → Bool
 is_ready_if H None = false
 is_ready_if H (Some o) = is_ready H (stamped_of o)
 
--- the same of what stands at k
+-- the same for the operation at k
 abbrev pub is_ready_at : List Operation → Slab Op → ℕ → Bool
 is_ready_at H s k = is_ready_if H (get s k)
 

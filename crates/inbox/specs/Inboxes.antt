@@ -31,7 +31,7 @@ delivered_of Kept = delivery.Kept
 abbrev pub waiting_in : List Op → List Stamped
 waiting_in ops = map stamped_of ops
 
--- by rising id, so each id once
+-- in ascending order of id, so each id once
 abbrev pub AreRising : List Op → Type 0
 AreRising ops = IsRising (waiting_in ops)
 
@@ -45,12 +45,12 @@ pub record IsLeastReady (H : List Operation) (ops : List Op) (o : Op) : Type 0 w
 abbrev pub AreNotReady : List Operation → List Op → Type 0
 AreNotReady H ops = (o : Op) → IsAmong o ops → is_ready H (stamped_of o) ≡ false
 
--- the answer to what is put where these wait
+-- the answer to a put into an inbox where these wait
 abbrev pub answer_to_put : Bool → List Stamped → Stamped → delivery.Delivered
 answer_to_put ready W s = cond (is_waiting W s.id) delivery.Known
     (cond (is_crowded ready (length W)) (delivery.NotKept InboxFull) delivery.Kept)
 
--- the operations at the keys, by rising id
+-- the operations at the keys, in ascending order of id
 abbrev pub ops_at : Slab Op → List (OpId × ℕ) → List Op
 ops_at s entries = filter_map (λ e. get s e.1) entries
 

@@ -1,7 +1,7 @@
 -- What an inbox holds, and what it answers.
 pub mod Awaiting
 pub mod Inboxes
--- Handed on from the crates below, for users of this one.
+-- Re-exported from the crates below, for users of this one.
 pub use Rattle.document.specs.value
 pub use Rattle.document.specs.cursor
 pub use Rattle.document.specs.operation

@@ -20,7 +20,7 @@ use std::marker::Model;
 #[derive(Debug, Drop)]
 pub struct Waiting {
     op: Shared<Op>,
-    /// The position in its vector of the counter that it waits for. Only a hint: where the operation is entered is searched for anyway.
+    /// The position in its vector of the counter that it waits for. Only a hint: `forget` tries it first.
     position: usize,
 }
 
@@ -58,7 +58,7 @@ impl Waiting {
         self.op
     }
 
-    /// Notes that it waits for the counter at another position.
+    /// Records that it waits for the counter at another position.
     fn set_position(&mut self, position: usize)
         ensures { self.new ≡ self.old }
     {
@@ -73,7 +73,7 @@ pub fn op_at(ops: &Slab<Waiting>, key: usize) -> Option<&Shared<Op>>
     ops.get(key).map(Waiting::op)
 }
 
-/// Notes that what stands at a key of the slab waits for the counter at another position of its vector.
+/// Records that the operation at a key of the slab waits for the counter at another position of its vector.
 pub fn set_position(ops: &mut Slab<Waiting>, key: usize, position: usize)
     ensures { SameValues ops.old ops.new }
 {
@@ -82,13 +82,13 @@ pub fn set_position(ops: &mut Slab<Waiting>, key: usize, position: usize)
     }
 }
 
-/// A counter of an operation's vector: until that much is applied of the replica, the operation isn't ready. Rises by replica, then by
-/// counter.
+/// A counter of an operation's vector: until that much is applied of the replica, the operation isn't ready. Ordered by replica, then by
+/// counter, then by key.
 #[derive(Clone, Copy, Debug, PartialEq, Eq, PartialOrd, Ord)]
 pub struct Awaited {
     pub replica: ReplicaId,
     pub counter: u64,
-    /// The slab's key of the operation.
+    /// The operation's key in the slab.
     pub key: usize,
 }
 
@@ -104,7 +104,8 @@ pub fn awaited_by(id: OpId, key: usize) -> Awaited
 }
 
 /// Returns the position of a counter of the operation's vector that is neither applied nor seen, if there is one. That of its own replica
-/// comes first: each operation of an honest replica names the one before it, so of all that wait at most one doesn't wait for that.
+/// comes first: each operation of an honest replica names the one before it, so of all its operations that wait at most one doesn't wait
+/// for that.
 pub fn awaited_position(op: &Op, applied: &[OpId], seen: &GrowingVector) -> Option<usize>
     requires { IsCanonical applied.now }
     ensures { IfSome result (λ i. IsAhead applied.now seen.now op.now i) }
@@ -141,7 +142,7 @@ pub fn awaits_nothing(awaits: &BTreeSet<Awaited>) -> bool
     awaits.is_empty()
 }
 
-/// The first that waits for a counter of this id's replica which is at most the id's, if there is one. One search.
+/// The first awaited counter of this id's replica that is at most the id's, if there is one. One search.
 pub fn first_met(awaits: &BTreeSet<Awaited>, id: &OpId) -> Option<Awaited>
     ensures some { IfSome result
         (λ q. (contains await_cmp awaits.now q ≡ true) × (q.replica ≡ id.now.replica) × (q.counter ≤ id.now.counter)) }
@@ -163,8 +164,8 @@ pub fn first_met(awaits: &BTreeSet<Awaited>, id: &OpId) -> Option<Awaited>
     Some(*awaited)
 }
 
-/// Removes the counter at a position of the operation's vector, where that is what the operation at this key waits for. Returns whether
-/// it is. One search.
+/// Removes the counter at a position of the operation's vector, if the operation at this key waits for it. Returns whether it does. One
+/// search.
 fn forget_at(awaits: &mut BTreeSet<Awaited>, op: &Op, position: usize, key: usize) -> bool
     requires within { position < length op.now.deps }
     requires single { AreSingle awaits.old }
@@ -177,8 +178,8 @@ fn forget_at(awaits: &mut BTreeSet<Awaited>, op: &Op, position: usize, key: usiz
     awaits.remove(&awaited_by(id, key))
 }
 
-/// Removes what an operation waits for, which stood at this key. One search, where that is the counter at its position; else one for each
-/// counter of its vector.
+/// Removes what the operation at this key waited for. One search, if that is the counter at its position; else one for each counter of its
+/// vector.
 pub fn forget(awaits: &mut BTreeSet<Awaited>, waiting: &Waiting, key: usize)
     requires held { IsAwaiting awaits.old key waiting.now }
     requires single { AreSingle awaits.old }

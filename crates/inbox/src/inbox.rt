@@ -24,11 +24,11 @@ use std::marker::Model;
 /// The most operations that wait.
 const MOST_WAITING: usize = 4096;
 
-/// A set of operations that wait to become causally ready. Contracts see them by rising id, each id once.
+/// A set of operations that wait to become causally ready. Contracts see them in ascending order of id, each id once.
 #[derive(Debug, Drop)]
 pub struct Inbox {
     ops: Slab<Waiting>,
-    /// The slab's key of each operation, by its id.
+    /// The key in the slab of each operation, by its id.
     keys: Numbers,
     /// What each of them waits for.
     waits: Waits,
@@ -98,8 +98,8 @@ impl Inbox {
         self.len() <= most
     }
 
-    /// Keeps an operation until it is taken, unless one with its id waits already. A binary search, and one insert into a set; moves
-    /// the keys of greater ids, and no operation.
+    /// Keeps an operation until it is taken, unless one with its id waits already. A binary search, and one insert into a set; shifts the
+    /// keys of greater ids, but moves no operation.
     ///
     /// # Errors
     /// `InboxFull` if no more may wait, else `NoMemory` if allocation fails. What waited stays, and the operation is dropped.
@@ -128,19 +128,19 @@ impl Inbox {
         Ok(Delivered::Kept)
     }
 
-    /// Moves on what waits for counters that were applied since the last call, so that `smallest_ready` needn't look at it. Changes no
-    /// answer. Where a counter is awaited it costs a look at each counter of what is applied, a search for each that rose, and a few
-    /// searches for each operation that moves: over its life at most once for each replica that it names. Where allocation fails it
-    /// ends early, and the next call goes on.
+    /// Moves on the operations that wait for counters that were applied since the last call, so that `smallest_ready` needn't look at them.
+    /// Changes no answer. If a counter is awaited it costs a look at each counter of the applied vector, a search for each that rose, and a
+    /// few searches for each operation that moves; over its life an operation moves at most once for each replica that it names. If
+    /// allocation fails it ends early, and the next call continues.
     pub fn advance(&mut self, document: &Document)
         ensures same { self.new ≡ self.old }
     {
         self.waits.advance(&mut self.ops, document.applied().ids());
     }
 
-    /// The smallest operation that is causally ready, if there is one. Looks at those that may be ready, up to the first that is,
-    /// and, where a counter is awaited, at each counter of what is applied. Where some of these `advance` hasn't seen yet, also a search
-    /// for each of them, and a look at each operation that waits for one.
+    /// The smallest operation that is causally ready, if there is one. Looks at those that may be ready, up to the first that is, and, if a
+    /// counter is awaited, at each counter of the applied vector. For each of these that `advance` hasn't seen yet it also takes a search,
+    /// and a look at each operation that waits for it.
     pub fn smallest_ready(&self, document: &Document) -> Option<&Shared<Op>>
         ensures some { IfSome result (λ o. IsLeastReady (applied document.now.entries) self.now o.now) }
         ensures none { IfNone result (AreNotReady (applied document.now.entries) self.now) }
@@ -151,7 +151,7 @@ impl Inbox {
         op_at(&self.ops, least.1)
     }
 
-    /// Takes an operation out. A binary search, and one in a set; moves the keys of greater ids.
+    /// Takes an operation out. A binary search, and one in a set; shifts the keys of greater ids.
     pub fn take(&mut self, id: OpId) -> Option<Shared<Op>>
         ensures some { IfSome result (λ o. (o.id ≡ id) × IsAmong o self.old) }
         ensures none { IfNone result (is_waiting (waiting_in self.old) id ≡ false) }

@@ -8,7 +8,7 @@ mod waits;
 
 pub use inbox::Inbox;
 
-// Handed on from the crates below, for users of this one.
+// Re-exported from the crates below, for users of this one.
 pub use document::{
     Command, Delivered, Document, Entry, Expr, ExprStep, GrowingVector, Key, Misplaced,
     NamedVector, Op, Place, Publish, Question, Reading, Reply, Request, Scalar, Shared, Submission,

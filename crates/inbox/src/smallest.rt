@@ -40,7 +40,7 @@ pub fn smallest(ops: &Slab<Waiting>, waits: &Waits, document: &Document) -> Opti
     least
 }
 
-/// Returns the first entry whose operation is ready, if there is one: the smallest of these.
+/// Returns the first entry whose operation is ready, if there is one: the smallest ready one of these.
 fn first_ready(ops: &Slab<Waiting>, ready: &Numbers, document: &Document) -> Option<(OpId, usize)>
     ensures first { result ≡ first_of (applied document.now.entries) ops.now ready.now.entries }
     ensures rising { IsTrue (is_sorted id_cmp ready.now.entries) }
@@ -54,7 +54,7 @@ fn first_ready(ops: &Slab<Waiting>, ready: &Numbers, document: &Document) -> Opt
     None
 }
 
-/// Whether an operation stands at this key, and is ready.
+/// Whether there is an operation at this key, and it is ready.
 fn is_ready_at(ops: &Slab<Waiting>, document: &Document, key: usize) -> bool
     ensures { result ≡ is_ready_at (applied document.now.entries) ops.now key }
 {
@@ -64,8 +64,9 @@ fn is_ready_at(ops: &Slab<Waiting>, document: &Document, key: usize) -> bool
     }
 }
 
-/// Looks at the operations that wait for counters of this id's replica, of which so much is applied, that weren't seen yet. What was seen
-/// of it is likely to stand at `position`. Returns the smaller one of the smallest before and the smallest of these that is ready.
+/// Looks at the operations that wait for a counter of this id's replica up to the id's, which is what is applied of it, unless that much
+/// was seen already. `position` is a hint for the replica's pair in what was seen. Returns the smaller of `before` and the smallest of
+/// these that is ready.
 fn smallest_of(
     ops: &Slab<Waiting>,
     waits: &Waits,
@@ -103,7 +104,7 @@ fn smallest_of(
     least
 }
 
-/// Returns the smaller one of the smallest before and the operation at this key, if it is ready.
+/// Returns the operation at this key, if it is ready and isn't greater than `before`; else `before`.
 fn smaller(
     ops: &Slab<Waiting>,
     document: &Document,
@@ -127,7 +128,7 @@ fn smaller(
     Some((op.id, key))
 }
 
-/// Returns whether the operation is greater than the smallest before, if there is one.
+/// Returns whether the operation is greater than `before`, if there is one.
 fn is_above(before: &Option<(OpId, usize)>, op: &Op) -> bool
     ensures { result ≡ is_above before.now op.now.id }
 {

@@ -1,4 +1,4 @@
-//! What the operations of an inbox wait for, and how that moves on as counters come.
+//! What the operations of an inbox wait for, and how they move on as counters are applied.
 
 ghost use Rattle.std.specs.Prelude.{◌≡◌, ◌<◌, ◌≤◌, ℕ, List, [], Some, length, true, false, IsTrue, OnErr, OnOk};
 ghost use Rattle.std.specs.BTreeSet.{contains};
@@ -22,16 +22,16 @@ use std::collections::BTreeSet;
 /// What the operations of an inbox wait for.
 #[derive(Debug, Drop)]
 pub struct Waits {
-    /// Of each of these operations a counter of its vector that is above what was seen.
+    /// For each of these operations but those in `ready`, a counter of its vector that is above what was seen.
     pub awaits: BTreeSet<Awaited>,
-    /// The slab's keys of the others, which may be ready, by their ids.
+    /// The keys in the slab of the others, which may be ready, by their ids.
     pub ready: Numbers,
-    /// How much was applied of each replica when what waits for it was moved on.
+    /// How much was applied of each replica when the operations that wait for it were last moved on.
     pub seen: GrowingVector,
 }
 
 impl Waits {
-    /// What no operation waits for.
+    /// The waits of an empty inbox.
     pub fn new(alloc: Global) -> Waits
         ensures awaits { (q : AnAwaited) → contains await_cmp result.awaits q ≡ false }
         ensures ready { result.ready.entries ≡ [] }
@@ -43,7 +43,7 @@ impl Waits {
         }
     }
 
-    /// Enters an operation, which stands at this key of the slab, under a counter of its vector that is neither applied nor seen, or
+    /// Enters the operation at this key of the slab under a counter of its vector that is neither applied nor seen, or, if there is none,
     /// among those that may be ready. Returns the position of that counter, 0 for none. One insert.
     ///
     /// # Errors
@@ -65,8 +65,8 @@ impl Waits {
         }
     }
 
-    /// Removes what an operation waits for, which stands at this key of the slab. A search among those that may be ready, and where it
-    /// isn't one of them that of `forget`.
+    /// Removes what the operation at this key of the slab waits for. A search among those that may be ready, and if it isn't one of them
+    /// that of `forget`.
     pub fn forget(&mut self, waiting: &Waiting, key: usize)
         requires there { (s : TheSlab AnOp) × (es : List (TheId × ℕ)) × (get s key ≡ Some waiting.now) × AreAwaiting s es self.old }
         ensures { IsForgotten self.old self.new waiting.now.id key }
@@ -76,10 +76,10 @@ impl Waits {
         }
     }
 
-    /// Moves on each operation whose counter has come since the last call: under another counter of its vector that isn't applied, or
-    /// among those that may be ready. So over its life an operation moves at most once for each replica that it names. Where
-    /// a counter is awaited it costs a look at each counter of what is applied, a search for each that rose, and a few searches for each
-    /// operation that moves. Where allocation fails it ends early, and the next call goes on.
+    /// Moves on each operation whose awaited counter was applied since the last call: under another counter of its vector that isn't
+    /// applied, or among those that may be ready. So over its life an operation moves at most once for each replica that it names. If a
+    /// counter is awaited it costs a look at each counter of the applied vector, a search for each that rose, and a few searches for each
+    /// operation that moves. If allocation fails it ends early, and the next call continues.
     pub fn advance(&mut self, ops: &mut Slab<Waiting>, applied: &[OpId])
         requires canonical { IsCanonical applied.now }
         requires there { (es : List (TheId × ℕ)) × AreAwaiting ops.old es self.old }
@@ -126,8 +126,7 @@ impl Waits {
         Ok(())
     }
 
-    /// Moves on what waits for counters of the replica at this position that have come, if its counter rose. Returns whether memory
-    /// sufficed.
+    /// Moves on what waits for applied counters of the replica at this position, if its counter rose. Returns false if allocation failed.
     fn advance_at(&mut self, ops: &mut Slab<Waiting>, applied: &[OpId], position: usize) -> bool
         requires canonical { IsCanonical applied.now }
         requires within { position < length applied.now }
@@ -145,10 +144,10 @@ impl Waits {
         self.see(id).is_ok()
     }
 
-    /// Notes that so much was seen of the id's replica, which nothing waits for any more.
+    /// Records that the id's replica was seen up to the id's counter, for which nothing waits any more.
     ///
     /// # Errors
-    /// `AllocError` if allocation fails. It counts as not seen then.
+    /// `AllocError` if allocation fails. That much then counts as not seen.
     fn see(&mut self, id: &OpId) -> Result<(), AllocError>
         requires counted { 0 < id.now.counter }
         requires passed { (q : AnAwaited) → contains await_cmp self.old.awaits q ≡ true → q.replica ≡ id.now.replica
@@ -162,7 +161,7 @@ impl Waits {
         Ok(())
     }
 
-    /// Moves on what waits for counters of the id's replica, of which so much is applied. Returns whether all that does is moved.
+    /// Moves on what waits for counters of the id's replica up to the id's, which is applied. Returns whether all of that was moved.
     fn move_met(&mut self, ops: &mut Slab<Waiting>, applied: &[OpId], id: &OpId) -> bool
         requires canonical { IsCanonical applied.now }
         requires applied { id.now.counter ≡ at applied.now id.now.replica }
@@ -172,7 +171,7 @@ impl Waits {
         ensures all { IsTrue result → (q : AnAwaited) → contains await_cmp self.new.awaits q ≡ true → q.replica ≡ id.now.replica
             → id.now.counter < q.counter }
     {
-        // Each turn moves one of at most so many, and the last turn finds none.
+        // Each turn moves one of at most `ops.len()` operations, and the last turn finds none.
         for _ in 0..=ops.len() {
             let Some(awaited) = first_met(&self.awaits, id) else {
                 return true;
@@ -184,10 +183,10 @@ impl Waits {
         false
     }
 
-    /// Moves on the operation that waits for a counter that is applied.
+    /// Moves on an operation that waits for an applied counter.
     ///
     /// # Errors
-    /// `AllocError` if allocation fails. It stays where it is then.
+    /// `AllocError` if allocation fails. The operation then stays where it is.
     fn move_on(
         &mut self,
         ops: &mut Slab<Waiting>,

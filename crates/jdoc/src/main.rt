@@ -1,4 +1,4 @@
-//! The program: it serves a document over lines, runs a script of engines and prints what each step replies, or lets threads write into
+//! The program: it serves a document over lines, runs a script of engines and prints the reply to each step, or makes threads write into
 //! engines.
 #![tactic(auto)]
 
@@ -33,7 +33,7 @@ fn lent<'a>(rt: &HostRuntime, owned: &'a [String]) -> Result<Vec<&'a str>, Alloc
     owned.iter().map(|word| word.as_str()).collect(rt.alloc())
 }
 
-/// Does what the words ask for, and returns the status. What waits, or starts threads, does so by the second handle.
+/// Does what the words ask for, and returns the status. The second handle is for what waits or starts threads.
 fn start<R: Files<File = File> + RandomSource + Threads + Wait + Sync>(
     rt: &HostRuntime,
     waits: &R,

@@ -1,4 +1,4 @@
--- What a document answers only adds to its history.
+-- What a document answers only extends its history.
 use Rattle.std.proofs.Common.{◌≡◌, ℕ, zero, suc, Bool, true, false, cond, List, [], ◌∷◌, length, take, Option, Some, None, Result, Ok}
 use Rattle.std.proofs.Common.{inl, inr}
 use Rattle.std.proofs.Common.{Err, IfOk, OnErr, refl, ap, sym, subst}
@@ -22,7 +22,7 @@ use Rattle.calls.specs.declared.response.Response.{Response}
 use Rattle.calls.specs.declared.response.Response.TheVariants as said
 use Rattle.serving.specs.Desks.{Answers, AnswersCall, AnswersLine, Desk, SaysSaved, length_of, received_of}
 
--- the histories of these two, of which the first has grown
+-- the histories of these two, the first of which has grown
 abbrev Grew : Replica → Replica → Type 0
 Grew q r = BeginsWith q.entries r.entries
 

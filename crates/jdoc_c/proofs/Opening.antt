@@ -1,4 +1,4 @@
--- What is returned where nobody goes on from a journal.
+-- What is returned if nothing resumes from a journal.
 use Rattle.std.proofs.Common.{◌≡◌, ℕ, Bool, false, List, Option, Some, None, refl, ap, sym, ◌∙◌, inl, inr}
 use Rattle.std.specs.Prelude.{is_some}
 use Rattle.std.proofs.Common.{true≢false}

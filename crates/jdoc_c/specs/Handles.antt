@@ -1,4 +1,4 @@
--- What calls of handles return, and what the handles hold then.
+-- What calls with handles return, and what the handles then hold.
 use Rattle.std.specs.Prelude.{◌≡◌, ◌⊎◌, ◌<◌, ◌≤◌, ◌++◌, ◌==◌, if◌then◌else◌, ℕ, List, [], drop, length, Option, None, Some}
 use Rattle.semantics.specs.Journals.{entries_from}
 use Rattle.semantics.specs.WorldHistory.{BeginsWith}
@@ -14,32 +14,32 @@ use Rattle.wire.specs.Lines.{cut}
 use Rattle.jdoc_c.specs.Openings.{IsBadNumber, IsOwn}
 use Rattle.jdoc_c.specs.Replies.{MayRespond, ReadReply, Replies}
 
--- a document that goes on from the whole lines of a journal, all of which its host has
+-- a document that resumes from the whole lines of a journal, all of which its host has
 pub record GoesOn (given : ℕ) (journal : List ℕ) (w : Writer) : Type 0 where
   pub own : IsOwn given (first_own (cut journal).lines) w.desk.replica.own
   pub brought : BringsBackLines [] (cut journal).lines w.desk.replica.entries
   pub stored : w.stored ≡ length w.desk.replica.entries
   pub handed : w.handed ≡ w.stored
 
--- what holds between what two handles hold: both documents, or both readers
+-- a relation between what two handles hold: both documents, or both readers
 abbrev pub Between : (Writer → Writer → Type 0) → (Reader → Reader → Type 0) → Role → Role → Type 0
 Between W R (is.Writes w) (is.Writes v) = W w v
 Between W R (is.Reads x) (is.Reads y) = R x y
 Between W R _ _ = ⊥
 
--- a document that goes on from a journal, of which nothing was asked yet
+-- a document that resumes from a journal, before the first request
 abbrev pub Opens : (given : ℕ) → (journal : List ℕ) → Held → Type 0
 Opens given journal h = (h.reply.items ≡ []) × ((w : Writer) × (h.role ≡ is.Writes w) × GoesOn given journal w)
 
--- a reader that has taken nothing in, of which nothing was asked yet
+-- a reader that has taken in nothing, before the first request
 abbrev pub OpensReader : Held → Type 0
 OpensReader h = (h.reply.items ≡ []) × ((x : Reader) × (h.role ≡ is.Reads x) × (x.follower.document.entries ≡ []))
 
--- which entries the host has stored, and which it was given, is as before
+-- how many entries the host has stored, and how many it was given, are as before
 abbrev pub KeepsCounts : Writer → Writer → Type 0
 KeepsCounts w v = (v.stored ≡ w.stored) × (v.handed ≡ w.handed)
 
--- a document replies to a line, or has no memory for that; a reader refuses
+-- a document replies to a line, or lacks the memory for it; a reader refuses
 abbrev pub Calls : (line : List ℕ) → (status : ℕ) → Held → Held → Type 0
 Calls line status h k = Between
     (λ w v. KeepsCounts w v
@@ -48,7 +48,7 @@ Calls line status h k = Between
     (λ x y. (status ≡ 7) × (k.reply.items ≡ []) × (y ≡ x))
     h.role k.role
 
--- a reader replies to a line, or has no memory for that; a document refuses
+-- a reader replies to a line, or lacks the memory for it; a document refuses
 abbrev pub Asks : (line : List ℕ) → (status : ℕ) → Held → Held → Type 0
 Asks line status h k = Between
     (λ w v. (status ≡ 7) × (k.reply.items ≡ []) × (v ≡ w))
@@ -57,13 +57,13 @@ Asks line status h k = Between
     ⊎ ((status ≡ 1) × (k.reply.items ≡ []))))
     h.role k.role
 
--- how a copy of bytes into the room for them ends: it returns this status, says how long they are, and the room has this then
+-- how a copy of bytes into a buffer ends: it returns this status and the length of the bytes, and the buffer is then this
 abbrev pub Copies : (bytes : List ℕ) → (status needed : ℕ) → (out out' : List ℕ) → Type 0
 Copies bytes status needed out out' = (needed ≡ length bytes)
     × (((status ≡ 0) × (out' ≡ bytes ++ drop (length bytes) out) × (length bytes ≤ length out))
     ⊎ ((status ≡ 2) × (out' ≡ out) × (length out < length bytes)))
 
--- nothing of the room is written, and no length is said
+-- nothing of the buffer is written, and no length is returned
 abbrev pub CopiesNothing : (needed needed' : ℕ) → (out out' : List ℕ) → Type 0
 CopiesNothing needed needed' out out' = (needed' ≡ needed) × (out' ≡ out)
 
@@ -71,11 +71,11 @@ CopiesNothing needed needed' out out' = (needed' ≡ needed) × (out' ≡ out)
 abbrev pub GivesReply : (status needed : ℕ) → (out out' : List ℕ) → Held → Held → Type 0
 GivesReply status needed out out' h k = Copies h.reply.items status needed out out' × (k ≡ h)
 
--- the lines of what the host of a document hasn't stored
+-- the lines that the host of a document hasn't stored
 abbrev pub unstored : Writer → List ℕ
 unstored w = journal_text (entries_from w.stored w.desk.replica.entries)
 
--- they are copied, and noted as handed out if they fit; or memory is short; a reader refuses
+-- they are copied, and noted as handed out if they fit; or an allocation fails; a reader refuses
 abbrev pub GivesLines : (status needed needed' : ℕ) → (out out' : List ℕ) → Held → Held → Type 0
 GivesLines status needed needed' out out' h k = (k.reply ≡ h.reply) × Between
     (λ w v. (Copies (unstored w) status needed' out out'
@@ -91,14 +91,14 @@ Settles status h k = (k.reply ≡ h.reply) × Between
     (λ x y. (status ≡ 7) × (y ≡ x))
     h.role k.role
 
--- readers are fed, which changes no document, or memory is short; a reader refuses
+-- readers are fed, which changes no document, or an allocation fails; a reader refuses
 abbrev pub Feeds : (status : ℕ) → Held → Held → Type 0
 Feeds status h k = (k.reply ≡ h.reply) × Between
     (λ w v. (v.desk ≡ w.desk) × KeepsCounts w v × ((status ≡ 0) ⊎ (status ≡ 1)))
     (λ x y. (status ≡ 7) × (y ≡ x))
     h.role k.role
 
--- a reader takes in what has come, and says how long its history is then, or why it stopped; a document refuses
+-- a reader takes in what has come, and returns the length that its history then has, or why it stopped; a document refuses
 abbrev pub Follows : (status count count' : ℕ) → Held → Held → Type 0
 Follows status count count' h k = (k.reply ≡ h.reply) × Between
     (λ w v. (status ≡ 7) × (count' ≡ count) × (v ≡ w))
@@ -107,25 +107,27 @@ Follows status count count' h k = (k.reply ≡ h.reply) × Between
     ⊎ (((status ≡ 1) ⊎ (status ≡ 6)) × (count' ≡ count))))
     h.role k.role
 
--- what a call of a handle does: a closed one returns 3, and stays closed, and R holds between what an open one held and what it holds
+-- what a call with a handle does: if it is closed, the call returns 3 and leaves it closed; if it is open, R relates what it held and what
+-- it holds
 abbrev pub OnOpen : (R : Held → Held → Type 0) → (status : ℕ) → Option Held → Option Held → Type 0
 OnOpen R status None None = status ≡ 3
 OnOpen R status (Some h) (Some k) = R h k
 OnOpen R status _ _ = ⊥
 
--- what opening a handle on a document of a journal does: it is open now, and so many bytes of the journal were taken; or it is as it was
+-- what opening a handle on a document of a journal does: either it is open now, and this many bytes of the journal were taken, or it is
+-- unchanged
 abbrev pub OpensAt : (given : ℕ) → (journal : List ℕ) → (status taken taken' : ℕ) → Option Held → Option Held → Type 0
 OpensAt given journal status taken taken' (Some h) after = (status ≡ 4) × (taken' ≡ taken) × (after ≡ Some h)
 OpensAt given journal status taken taken' None (Some h) = (status ≡ 0) × AreWhole taken' journal × Opens given journal h
 OpensAt given journal status taken taken' None None = (taken' ≡ taken)
     × ((status ≡ 1) ⊎ (status ≡ 6) ⊎ ((status ≡ 5) × IsBadNumber given (first_own (cut journal).lines)))
 
--- what opening a handle on a reader does: it is open now, or as it was
+-- what opening a handle on a reader does: it is open now, or unchanged
 abbrev pub OpensReaderAt : (status : ℕ) → Option Held → Option Held → Type 0
 OpensReaderAt status (Some h) after = (status ≡ 4) × (after ≡ Some h)
 OpensReaderAt status None (Some h) = (status ≡ 0) × OpensReader h
 OpensReaderAt status None None = (status ≡ 1) ⊎ (status ≡ 3) ⊎ (status ≡ 7)
 
--- what that does to the document: it is fed, or left alone where the reader is open
+-- what that does to the document: it is fed, or unchanged if the reader was open
 abbrev pub IsRead : (status : ℕ) → Option Held → Option Held → Type 0
 IsRead status before after = ((status ≡ 4) × (after ≡ before)) ⊎ OnOpen (Feeds status) status before after

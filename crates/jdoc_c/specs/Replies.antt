@@ -17,7 +17,7 @@ use Rattle.serving.specs.Desks.{AnswersLine, Asks, Desk, Looks}
 abbrev pub most_line : ℕ
 most_line = 33554432
 
--- the response of a document to a line, and what it leaves; a line that is too long is no call
+-- the response of a document to a line, and what it leaves; a line that is too long isn't a call
 abbrev pub Responds : Desk → (line : List ℕ) → Response → Desk → Type 0
 Responds m line r n =
     ((length line ≤ most_line) × AnswersLine m line r n)
@@ -33,7 +33,7 @@ read_only G = record {
   is_lost = false;
 }
 
--- the response of a reader to what a line calls for: questions and glances are answered as a document's, and nothing else is called for
+-- the response of a reader to what a line calls for: it answers questions and glances as a document does, and refuses everything else
 abbrev pub Reads : List Entry → Result call.Call Refusal → Response → Type 0
 Reads G (Ok (call.Ask q)) r = Asks (read_only G) q r
 Reads G (Ok (call.Glance steps depth elements)) r = Looks (read_only G) steps depth elements r
@@ -54,7 +54,7 @@ IsLineOf r text = (shown : Data) × IsFirstLine text (compact_text (response_jso
 abbrev pub Replies : Desk → (line reply : List ℕ) → Desk → Type 0
 Replies m line reply n = (r : Response) × IsLineOf r reply × Responds m line r n
 
--- what a document is left as that had no memory for its reply: as it was, or as behind a response
+-- what is left of a document that lacked the memory for its reply: it is unchanged, or as after a response
 abbrev pub MayRespond : Desk → (line : List ℕ) → Desk → Type 0
 MayRespond m line n = (n ≡ m) ⊎ ((r : Response) × Responds m line r n)
 

@@ -1,4 +1,4 @@
--- What a handle of C's owns.
+-- What a C handle owns.
 use base.Fml.{Fml, ftrue}
 use base.Stored.{Coded}
 use Rattle.std.specs.Coded.{coded_option}
@@ -14,6 +14,6 @@ abbrev pub slot_owns : Global → Ptr → Option the_row.Denot → Fml
 slot_owns alloc p None = ftrue
 slot_owns alloc p (Some x) = box_owns (ghosts.dealloc_token alloc) the_row p x
 
--- a slot is told from another by what it holds
+-- slots are distinguished by what they hold
 abbrev pub held_coded : Coded (Option the_row.Denot)
 held_coded = coded_option the_row.coded

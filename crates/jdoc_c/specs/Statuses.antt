@@ -3,7 +3,7 @@ use Rattle.std.specs.Prelude.{ℕ, Result, Ok, Err}
 use Rattle.jdoc_c.specs.declared.status.Status.{Status}
 use Rattle.jdoc_c.specs.declared.status.Status.TheVariants.{NoMemory, TooShort, Closed, WasOpen, BadNumber, Unfit, WrongKind}
 
--- as `jdoc.h` has them
+-- as in `jdoc.h`
 abbrev pub number_of : Status → ℕ
 number_of NoMemory = 1
 number_of TooShort = 2

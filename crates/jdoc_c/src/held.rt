@@ -1,4 +1,4 @@
-//! What a handle of C's holds.
+//! What a C handle holds.
 
 ghost use Rattle.std.specs.Prelude.{◌≡◌, ◌⊎◌, IfErr, IfOk, []};
 ghost use Rattle.wire.specs.Lines.{cut};
@@ -29,7 +29,7 @@ pub struct Held {
 }
 
 impl Held {
-    /// A document that goes on from lines of a journal, as `Writer::open`.
+    /// A document that resumes from the lines of a journal, as `Writer::open`.
     ///
     /// # Errors
     /// As `Writer::open`.
@@ -43,7 +43,7 @@ impl Held {
         }
     }
 
-    /// The reply to the last request, with its line feed; nothing before the first one.
+    /// The reply to the last request, with its line feed; empty before the first one.
     pub fn reply(&self) -> &[u8]
         ensures { result.now ≡ self.now.reply.items }
     {
@@ -53,7 +53,7 @@ impl Held {
     /// Answers a request, and feeds the readers, as far as memory allows.
     ///
     /// # Errors
-    /// `WrongKind` for a reader, and as `Writer::answer`. The last reply is gone then.
+    /// `WrongKind` for a reader, and as `Writer::answer`. There is no reply then.
     pub fn call(&mut self, alloc: Global, line: &[u8]) -> Result<(), Status>
         ensures { Calls line.now (code_of result) self.old self.new }
     {
@@ -72,7 +72,7 @@ impl Held {
     /// Answers a question or a glance of a reader.
     ///
     /// # Errors
-    /// `WrongKind` for a document, and as `Reader::answer`. The last reply is gone then.
+    /// `WrongKind` for a document, and as `Reader::answer`. There is no reply then.
     pub fn ask(&mut self, alloc: Global, line: &[u8]) -> Result<(), Status>
         ensures { Asks line.now (code_of result) self.old self.new }
     {
@@ -86,7 +86,8 @@ impl Held {
         }
     }
 
-    /// Takes in what has come to a reader, as `Reader::follow`, and says how many entries were taken in since the beginning.
+    /// Takes in what has come to a reader, as `Reader::follow`, and sets `count` to the number of entries that it has taken in since it was
+    /// opened.
     ///
     /// # Errors
     /// `WrongKind` for a document, and as `Reader::follow`.
@@ -115,7 +116,7 @@ impl Held {
         }
     }
 
-    /// A reader of this document, with room for so many entries, at least one, which was fed what it has room for.
+    /// A reader of this document, with room for `room` entries, at least one, which was fed what it has room for.
     ///
     /// # Errors
     /// `WrongKind` for a reader, else `NoMemory`.
@@ -134,7 +135,7 @@ impl Held {
         }
     }
 
-    /// Writes the lines that the host has to store into the room for them, as `hand_out`, and notes that it was given them.
+    /// Writes the lines that the host has to store into the buffer for them, as `hand_out`, and notes that the host was given them.
     ///
     /// # Errors
     /// `WrongKind` for a reader, `NoMemory`, `TooShort`.
@@ -156,7 +157,7 @@ impl Held {
         }
     }
 
-    /// Takes the lines that the host was given last as stored.
+    /// Counts the lines that the host was given last as stored.
     ///
     /// # Errors
     /// `WrongKind` for a reader.
@@ -182,7 +183,7 @@ fn of_role(alloc: Global, role: Role) -> Held
     }
 }
 
-/// Writes bytes into the room for them, and says how many they are. Writes none where they don't fit.
+/// Writes bytes into the buffer for them, and sets `needed` to their length. Writes none if they don't fit.
 ///
 /// # Errors
 /// `TooShort` if they don't fit.
@@ -203,7 +204,7 @@ fn goes_to_a_thread<T: Send>(value: T) -> T
     value
 }
 
-/// Holds that what a handle holds may go to another thread: without that this isn't proved.
+/// Proves that what a handle holds may go to another thread.
 pub fn sent(held: Box<Held>) -> Box<Held>
     ensures { result ≡ held }
 {

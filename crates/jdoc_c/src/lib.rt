@@ -1,4 +1,4 @@
-//! The engine for C, and for each language that calls C. `include/jdoc.h` declares what this exports, and says what the caller owes.
+//! The engine for C, and for every language that calls C. `include/jdoc.h` declares what this exports, and says what the caller owes.
 //!
 //! A handle holds a document that is written, or a reader of one. Its journal is the host's: the library opens no file and starts no
 //! thread.
@@ -24,7 +24,7 @@ use std::alloc::Global;
 use std::mem;
 use writer::taken_of;
 
-/// A handle. C sets all bytes of a new one to 0, which is a closed one, and then only passes it on.
+/// A handle. C sets all bytes of a new one to 0, which means closed, and then only passes it on.
 #[repr(C)]
 #[derive(Drop)]
 pub struct Handle {
@@ -33,7 +33,8 @@ pub struct Handle {
     ghost tied: { is_open ≡ is_some slot.held },
 }
 
-/// Opens a closed handle on a document that goes on from the lines of its journal, and says how many bytes of them were taken.
+/// Opens a closed handle on a document that resumes from the lines of its journal, and sets `*taken` to the number of bytes that were
+/// taken.
 #[unsafe(no_mangle)]
 pub extern "C" fn jdoc_open(
     alloc: Global,
@@ -118,7 +119,7 @@ pub extern "C" fn jdoc_ask(alloc: Global, reader: &mut Handle, line: &[u8]) -> u
     code_of(outcome)
 }
 
-/// Writes the reply to the last request into the room for it.
+/// Writes the reply to the last request into the buffer for it.
 #[unsafe(no_mangle)]
 pub extern "C" fn jdoc_reply(
     alloc: Global,
@@ -136,7 +137,7 @@ pub extern "C" fn jdoc_reply(
     code_of(outcome)
 }
 
-/// Writes the lines that the host has to store into the room for them.
+/// Writes the lines that the host has to store into the buffer for them.
 #[unsafe(no_mangle)]
 pub extern "C" fn jdoc_lines(
     alloc: Global,
@@ -154,7 +155,7 @@ pub extern "C" fn jdoc_lines(
     code_of(outcome)
 }
 
-/// Takes the lines that `jdoc_lines` gave last as stored.
+/// Counts the lines that `jdoc_lines` gave last as stored.
 #[unsafe(no_mangle)]
 pub extern "C" fn jdoc_lines_stored(alloc: Global, handle: &mut Handle) -> u32
     ensures { OnOpen (Settles result) result handle.old.slot.held handle.new.slot.held }
@@ -180,7 +181,7 @@ pub extern "C" fn jdoc_feed(alloc: Global, handle: &mut Handle) -> u32
     code_of(outcome)
 }
 
-/// Takes in what has come to a reader, and says how many entries were taken in since the beginning.
+/// Takes in what has come to a reader, and sets `*length` to the number of entries that it has taken in since it was opened.
 #[unsafe(no_mangle)]
 pub extern "C" fn jdoc_follow(alloc: Global, reader: &mut Handle, length: &mut usize) -> u32
     ensures { OnOpen (Follows result length.old length.new) result reader.old.slot.held reader.new.slot.held }
@@ -193,7 +194,7 @@ pub extern "C" fn jdoc_follow(alloc: Global, reader: &mut Handle, length: &mut u
     code_of(outcome)
 }
 
-/// Takes what an open handle holds out of it, which closes it.
+/// Moves what an open handle holds out of it, which closes it.
 fn take(alloc: Global, handle: &mut Handle) -> Option<Box<Held>>
     ensures closed { (handle.new.slot.held ≡ None) × (handle.new.is_open ≡ false) }
     ensures held { handle.old.slot.held ≡ option_map (λ held. held.value) result }
@@ -206,7 +207,7 @@ fn take(alloc: Global, handle: &mut Handle) -> Option<Box<Held>>
     }
 }
 
-/// Puts it into a closed handle, which opens it.
+/// Moves this into a closed handle, which opens it.
 fn put(handle: &mut Handle, held: Box<Held>)
     ensures { handle.new.slot.held ≡ Some held.value }
 {
@@ -219,7 +220,7 @@ fn put(handle: &mut Handle, held: Box<Held>)
 /// Opens a closed handle on this.
 ///
 /// # Errors
-/// `NoMemory`. The handle is as before.
+/// `NoMemory`. The handle is then unchanged.
 fn keep(alloc: Global, handle: &mut Handle, held: Held) -> Result<(), Status>
     ensures kept { OnOk result (handle.new.slot.held ≡ Some held) }
     ensures same { IfErr result (λ why. (why ≡ NoMemory) × (handle.new.slot.held ≡ handle.old.slot.held)) }

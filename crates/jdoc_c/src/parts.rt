@@ -1,4 +1,4 @@
-//! A box with its fields in sight of the slot.
+//! A box, with its fields visible to the slot.
 ghost use Rattle.std.specs.Prelude.{◌≡◌};
 ghost use Rattle.std.specs.Box.Ownership.{box_owns};
 

@@ -18,7 +18,7 @@ use ids::Refusal;
 use serving::MOST_LINE;
 use std::alloc::{AllocError, Global};
 
-/// A reader of a document, which asks what it has taken in.
+/// A reader of a document, which answers from what it has taken in.
 #[derive(Drop)]
 pub struct Reader {
     pub(crate) follower: Follower,
@@ -28,7 +28,7 @@ pub struct Reader {
 }
 
 impl Reader {
-    /// A reader at this end of a ring.
+    /// A reader with this end of a ring.
     pub fn new(follower: Follower, room: usize) -> Reader
         requires { ShowsWhatCame follower }
         ensures { result.follower ≡ follower }
@@ -36,10 +36,10 @@ impl Reader {
         Reader { follower, room }
     }
 
-    /// Takes in what has come, at most as many entries as the ring has room for. Returns how many were taken in since the beginning.
+    /// Takes in what has come, at most as many entries as the ring has room for. Returns how many it has taken in since it was opened.
     ///
     /// # Errors
-    /// `NoMemory`, `Unfit`: the entries before it were taken in, and it is tried again at the next call.
+    /// `NoMemory` or `Unfit`: the entries before the failing one were taken in, and the next call tries that one again.
     pub fn follow(&mut self, alloc: Global) -> Result<usize, Status>
         ensures count { IfOk result (λ count. count ≡ length self.new.follower.document.entries) }
         ensures err { IfErr result (λ why. (why ≡ NoMemory) ⊎ (why ≡ Unfit)) }
@@ -49,7 +49,7 @@ impl Reader {
         Ok(self.follower.len())
     }
 
-    /// The line that answers a question or a glance, with its line feed; another request is refused.
+    /// The line that answers a question or a glance, with its line feed; any other request is refused.
     ///
     /// # Errors
     /// `NoMemory`.
@@ -115,7 +115,7 @@ impl Reader {
     }
 }
 
-/// Takes in what has come, at most so many entries.
+/// Takes in what has come, at most `room` entries.
 ///
 /// # Errors
 /// As `Reader::follow`.

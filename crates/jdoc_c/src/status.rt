@@ -5,25 +5,25 @@ ghost use Rattle.jdoc_c.specs.Statuses.{code_of, number_of};
 
 use std::alloc::{AllocError, AllocFailed};
 
-/// What C sees of a call that did what it is for.
+/// What C sees of a call that did its job.
 const DONE: u32 = 0;
 
-/// Why a call didn't do what it is for. `jdoc.h` has the numbers.
+/// Why a call didn't do its job. `jdoc.h` has the numbers.
 #[derive(Clone, Copy, Debug, PartialEq, Eq)]
 pub enum Status {
-    /// Memory was short.
+    /// An allocation failed.
     NoMemory = 1,
-    /// The reply or the lines are longer than the room for them.
+    /// The reply or the lines don't fit into the buffer for them.
     TooShort = 2,
     /// The handle is closed.
     Closed = 3,
-    /// The handle that is to be opened is open.
+    /// The handle to be opened is already open.
     WasOpen = 4,
-    /// The number is 0 and the journal has none, or it isn't the journal's.
+    /// The number is 0 and the journal has none, or it differs from the journal's.
     BadNumber = 5,
     /// A line of the journal, or an operation that came to a reader, doesn't fit.
     Unfit = 6,
-    /// The call is for a document, and this is a reader, or the other way round.
+    /// The call is for a document and this is a reader, or the other way round.
     WrongKind = 7,
 }
 

@@ -19,13 +19,13 @@ use serving::{Desk, MOST_LINE, Memory};
 use std::alloc::{AllocError, Global};
 use store::{Fault, Journal, whole_len};
 
-/// A document whose journal the host keeps: the lines of what came since it stored last are written when it asks for them.
+/// A document whose journal is kept by the host, which asks for the lines of everything since it last stored.
 #[derive(Drop)]
 pub struct Writer {
     desk: Desk<Memory>,
     /// How many entries the host has called stored.
     stored: usize,
-    /// How many entries were handed to it with the lines that it was given last.
+    /// How many entries the history had when the host was last given lines.
     handed: usize,
     pub(crate) feeds: Feeds,
     ghost fed: { AreFed desk.replica.entries feeds.feeds.items } by { Prim.hlevel (codes, coded_element) },
@@ -43,11 +43,10 @@ impl Writer {
     ghost use Rattle.jdoc_c.specs.Openings.{IsWhyNot};
     ghost use Rattle.jdoc_c.specs.Replies.{MayRespond, Replies};
 
-    /// A document that goes on from these lines of a journal, as the replica of this number, or of the journal's for 0. What is behind the
-    /// last whole line is passed over.
+    /// A document that resumes from these lines of a journal, as the replica of this number, or of the journal's for 0. Bytes after the
+    /// last whole line are skipped.
     ///
-    /// # Errors
-    /// `BadNumber`, `Unfit` with the first line that doesn't fit, `NoMemory`.
+    /// `BadNumber`, `Unfit` for the first line that doesn't fit, `NoMemory`.
     pub fn open(alloc: Global, number: u32, lines: &[u8]) -> Result<Writer, Status>
         ensures opened { IfOk result (GoesOn number lines.now) }
         ensures err { IfErr result (IsWhyNot number (first_own (cut lines.now).lines)) }
@@ -63,7 +62,7 @@ impl Writer {
     /// The line that answers a request, with its line feed.
     ///
     /// # Errors
-    /// `NoMemory`. What the request writes or takes in may stand: the lines that are written next have it then.
+    /// `NoMemory`. What the request writes or receives may be in the document all the same; it is then among the next lines.
     pub fn answer(&mut self, alloc: Global, line: &[u8]) -> Result<Vec<u8>, Status>
         ensures replied { IfOk result (λ reply. Replies self.old.desk line.now reply.items self.new.desk) }
         ensures short { IfErr result (λ why. (why ≡ NoMemory) × MayRespond self.old.desk line.now self.new.desk) }
@@ -73,7 +72,7 @@ impl Writer {
         Ok(write_response(alloc, &response)?)
     }
 
-    /// The lines of a journal of all that came since the host stored last.
+    /// The journal lines of everything that came since the host last stored.
     ///
     /// # Errors
     /// `NoMemory`.
@@ -91,14 +90,14 @@ impl Writer {
         self.handed = self.desk.session().len();
     }
 
-    /// Takes the lines that the host was given last as stored.
+    /// Counts the lines that the host was given last as stored.
     pub fn settle(&mut self)
         ensures { self.new ≡ record self.old { stored = self.old.handed } }
     {
         self.stored = self.handed;
     }
 
-    /// A new reader of this document, through a ring with room for so many entries.
+    /// A new reader of this document, through a ring with room for `room` entries.
     ///
     /// # Errors
     /// `NoMemory`.
@@ -116,10 +115,10 @@ impl Writer {
         }
     }
 
-    /// Sends each reader what it has room for, and lets those go that were closed.
+    /// Sends each reader what its ring has room for, and drops the feeds of those that were closed.
     ///
     /// # Errors
-    /// `NoMemory`: what isn't sent goes at the next call.
+    /// `NoMemory`: what isn't sent is sent by the next call.
     pub fn feed(&mut self, alloc: Global) -> Result<(), Status>
         ensures err { IfErr result (λ why. why ≡ NoMemory) }
         ensures same { (self.new.desk ≡ self.old.desk) × KeepsCounts self.old self.new }
@@ -128,10 +127,10 @@ impl Writer {
     }
 }
 
-/// Sends the followers of a document what they have room for.
+/// Sends the followers of a document what their rings have room for.
 ///
 /// # Errors
-/// `NoMemory`: what isn't sent goes at the next call.
+/// `NoMemory`: what isn't sent is sent by the next call.
 fn send(alloc: Global, feeds: &mut Feeds, desk: &Desk<Memory>) -> Result<(), Status>
     ensures fed { AreFed desk.now.replica.entries feeds.old.feeds.items → AreFed desk.now.replica.entries feeds.new.feeds.items }
     ensures err { IfErr result (λ why. why ≡ NoMemory) }
@@ -164,7 +163,7 @@ fn of_desk(alloc: Global, desk: Desk<Memory>) -> Writer
     }
 }
 
-/// These lines as a journal.
+/// A journal of these lines.
 fn journal_of(alloc: Global, lines: &[u8]) -> Result<Journal<Memory>, Status>
     ensures same { IfOk result (λ journal. journal.bytes.items ≡ lines.now) }
     ensures err { IfErr result (λ why. why ≡ NoMemory) }
@@ -177,10 +176,10 @@ fn journal_of(alloc: Global, lines: &[u8]) -> Result<Journal<Memory>, Status>
     })
 }
 
-/// The number of whoever goes on from a journal.
+/// The number of the replica that resumes from a journal.
 ///
 /// # Errors
-/// `BadNumber` if it is 0 and the journal has none, or if it isn't the journal's. As `Journal::own`.
+/// `BadNumber` if it is 0 and the journal has none, or if it differs from the journal's. Else as `Journal::own`.
 fn own_number(alloc: Global, number: u32, journal: &Journal<Memory>) -> Result<ReplicaId, Status>
     ensures own { IfOk result (IsOwn number (first_own (cut journal.now.bytes.items).lines)) }
     ensures err { IfErr result (IsWhyNot number (first_own (cut journal.now.bytes.items).lines)) }
@@ -193,7 +192,7 @@ fn own_number(alloc: Global, number: u32, journal: &Journal<Memory>) -> Result<R
     }
 }
 
-/// Why a journal can't be gone on from.
+/// Why a journal can't be resumed.
 fn status_of(why: &Fault) -> Status
     ensures { (result ≡ NoMemory) ⊎ (result ≡ Unfit) }
 {

@@ -1,4 +1,4 @@
--- The entries that are called stored are those of any longer history, and a history of the engine.
+-- The entries that are called stored are those of any longer history, and are a history of the engine.
 use Rattle.std.proofs.Common.{◌≡◌, ◌≤◌, ◌∙◌, ℕ, List, length, ap, subst, arith}
 use Rattle.semantics.specs.Entries.{Entry, first_entries}
 use Rattle.semantics.specs.Joining.{HadRoom}

@@ -1,8 +1,8 @@
--- What goes out to peers: what was called stored.
+-- What is sent to peers: what was called stored.
 use Rattle.std.specs.Prelude.{ℕ, List}
 use Rattle.semantics.specs.Entries.{Entry, first_entries}
 
--- the number of the engine, the history that was seen of it and the one that was read last, and how many entries of it are called stored
+-- the number of the engine, the history of it that was seen and the one that was read last, and how many of its entries are called stored
 pub record Sending : Type 0 where
   pub own : ℕ
   pub seen : List Entry

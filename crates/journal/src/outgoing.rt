@@ -1,4 +1,4 @@
-//! What may go out is what was stored.
+//! Only what was stored may be sent.
 
 ghost use Rattle.std.specs.Prelude.{◌≡◌, ◌⊎◌, ◌≤◌, [], Ok, Err, IfErr, IfOk, length, max, min};
 ghost use Rattle.ids.specs.declared.refusal.Refusal.TheVariants.{NoMemory};
@@ -22,8 +22,9 @@ use records::write_bundle;
 use std::alloc::Global;
 use std::marker::Model;
 
-/// A token that answers peers with stored entries alone: those before a position that the application called stored. So no operation goes
-/// out that a restart wouldn't bring back. Contracts see the number of the engine, what was seen and read, and how many entries are stored.
+/// A token that answers peers with stored entries alone: those before a position that the application called stored. So no operation is
+/// sent that a restart wouldn't bring back. Contracts see the number of the engine, what was seen and read, and how many entries are
+/// stored.
 #[derive(Drop)]
 pub struct Outgoing<N: EngineName> {
     token: ReaderToken<N>,
@@ -36,8 +37,9 @@ pub struct Outgoing<N: EngineName> {
 pub struct Answered {
     /// The bundle for the peer.
     pub lines: Vec<u8>,
-    /// Whether the hello names more operations of the own number than are known here. Then this engine, or another one of its number, has
-    /// handed out what its journal lost: let it write no more before an exchange has brought that, or give it a new number.
+    /// Whether the hello names more operations of this engine's own number than are known here. If so, this engine, or another one with its
+    /// number, has handed out operations that its journal lost: it must write no more until an exchange has brought them back, or it needs
+    /// a new number.
     pub is_beyond: bool,
 }
 
@@ -57,7 +59,7 @@ impl<N: EngineName> Model for Outgoing<N> {
 }
 
 impl<N: EngineName> Outgoing<N> {
-    /// What answers peers by this token, of the engine with this number. Nothing is called stored yet.
+    /// An `Outgoing` that answers peers through this token, of the engine with this number. Nothing is called stored yet.
     pub fn new(token: ReaderToken<N>, own: ReplicaId) -> Outgoing<N>
         ensures { result ≡ record { own = own; seen = token.seen; read = token.read; stored = 0 } }
     {
@@ -68,8 +70,8 @@ impl<N: EngineName> Outgoing<N> {
         }
     }
 
-    /// The lines of the entries that aren't called stored, of all that is published at this one read, as `write_from` has them. The same
-    /// lines again, and perhaps more, until they are called stored.
+    /// The lines of the entries that aren't called stored, of all that is published at this one read, as in `write_from`. Until they are
+    /// called stored, it returns the same lines again, and perhaps more.
     ///
     /// # Errors
     /// As `write_from`.
@@ -85,15 +87,15 @@ impl<N: EngineName> Outgoing<N> {
         write_from(alloc, &mut self.token, self.stored)
     }
 
-    /// Calls the entries before this position stored: say so only once they would survive a loss of power. What is called stored stays so,
-    /// and what wasn't seen isn't stored.
+    /// Calls the entries before this position stored: do so only once they would survive a loss of power. What is called stored stays so,
+    /// and an entry that wasn't seen isn't stored.
     pub fn call_stored(&mut self, upto: usize)
         ensures { self.new ≡ record self.old { stored = max self.old.stored (min upto (length self.old.seen)) } }
     {
         self.stored = self.stored.max(upto.min(self.token.seen_len()));
     }
 
-    /// The hello of all that is published, as `hello` has it: it hands out no operation.
+    /// The hello of all that is published, as in `hello`. It hands out no operation.
     ///
     /// # Errors
     /// As `hello`.
@@ -109,8 +111,8 @@ impl<N: EngineName> Outgoing<N> {
         hello(alloc, &mut self.token)
     }
 
-    /// The answer to a hello, as `answer` gives it, out of the entries that are called stored: what else is published comes with a later
-    /// hello, once it is. A peer reads the same operations.
+    /// The answer to a hello, as `answer` gives it, from the entries that are called stored: what else is published comes with a later
+    /// hello, once it is stored. A peer reads the same operations.
     ///
     /// # Errors
     /// As `answer`.
@@ -130,7 +132,7 @@ impl<N: EngineName> Outgoing<N> {
         ensures bad { IfErr (hello_form (without_end hello.now))
             (λ why. ((result ≡ Err why) ⊎ (result ≡ Err NoMemory)) × (self.new ≡ self.old)) }
     {
-        // What a token has seen is an entry history, also where the hello is refused.
+        // What a token has seen is an entry history, even if the hello is refused.
         prove!(self.token.seen_len() <= usize::MAX);
         let vector = read_hello(alloc, hello)?;
         let ops = self.token.missing_before(alloc, self.stored, &vector)?;

@@ -1,4 +1,4 @@
-//! An engine that goes on from its journal.
+//! An engine that resumes from its journal.
 
 ghost use Rattle.std.specs.Prelude.{◌≡◌, [], ◌∷◌, List, None, OnOk, length, take};
 ghost use Rattle.semantics.specs.Entries.{Entry as TheEntry};
@@ -13,7 +13,7 @@ use records::{Lines, Recorded, Replayed, Unfit, check_recorded, read_record};
 use std::alloc::Global;
 use std::sync::Wait;
 
-/// Brings a new engine back from its journal, in one piece or in several. Between them nobody else may write to the engine.
+/// Replays a journal into a new engine, in one piece or in several. Meanwhile nobody else may write to the engine.
 #[derive(Debug, Drop)]
 pub struct Replay {
     /// The greatest counter of the lines that were taken.
@@ -28,10 +28,10 @@ impl Replay {
 
     /// Takes the lines of a journal, one after the other, and stops at the first that doesn't fit. The client submits each, and the writer
     /// handles and publishes it: after this the history is what it was, with an entry for each line that was taken, own ones as own
-    /// commands of this client. A line that is refused by the rules, or of another id, has changed nothing: what stands is the engine of
-    /// the lines before it. After `NotApplied` its operation may wait. After `NotAlone`, and where allocation failed (`NoMemory`), its
-    /// entry may stand or be held all the same: close this engine, and begin anew. Each line takes one of the client's serials. May spin
-    /// behind another thread that is in the queue. Costs what receiving as many lines costs.
+    /// commands of this client. A line that is refused by the rules, or that would make another id, has changed nothing: the engine has the
+    /// lines before it. After `NotApplied` its operation may wait. After `NotAlone`, and if allocation failed (`NoMemory`), its entry may
+    /// be in the history or held all the same: close this engine, and start over. Each line takes one of the client's serials. May spin
+    /// while another thread is in the queue. Costs what receiving as many lines costs.
     pub fn take<N: EngineName>(
         &mut self,
         rt: &impl Wait,
@@ -89,7 +89,7 @@ impl Replay {
         Ok(())
     }
 
-    /// Submits what a line says.
+    /// Submits what a line records.
     fn submit<N: EngineName>(
         &self,
         rt: &impl Wait,
@@ -126,7 +126,7 @@ impl Replay {
     }
 }
 
-/// Has the writer handle what was submitted, and publish it.
+/// Makes the writer handle and publish what was submitted.
 fn settle<N: EngineName>(
     rt: &impl Wait,
     alloc: Global,

@@ -23,7 +23,7 @@ pub struct Written {
 
 /// The lines of the entries from a position on, of all that the token sees in this one read, which it has then seen: an own entry as
 /// `["own",ID,COMMAND]`, one that a peer sent as its line in the first profile. A `Replay` reads each by itself. Takes time and memory in
-/// proportion to how many they are; says the same for the same position, but that more may follow.
+/// proportion to their number. A later call with the same position returns the same lines, and perhaps more.
 ///
 /// # Errors
 /// `NoReading` if the copies gave no reading, `Closed` if the engine is closed, `NoMemory` if allocation fails. The token may then have

@@ -1,4 +1,4 @@
-//! Engines that end and go on from their journals, as tables that small functions play.
+//! Engines that end and resume from their journals, as tables that small functions play.
 
 mod damaged;
 mod going_on;

@@ -4,7 +4,7 @@ use Rattle.std.specs.List.{range_with_len, count_by}
 use Rattle.std.specs.Int.{bit_at, div_ceil}
 use Rattle.std.specs.Simd.Lanes.{zip2, chunk, mask_l}
 
--- the greatest number of a list, 0 of the empty one
+-- the greatest number of a list, 0 for the empty one
 abbrev pub greatest : List ℕ → ℕ
 greatest [] = 0
 greatest (c ∷ cs) = max c (greatest cs)

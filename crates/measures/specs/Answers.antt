@@ -6,7 +6,7 @@ use Rattle.lanes.specs.Kernels.{greatest, over, count_true, packed}
 use Rattle.measures.specs.declared.kernels.kernel.Kernel.{Kernel}
 use Rattle.measures.specs.declared.kernels.kernel.Kernel.TheVariants.{AllLe, AllEq, MaxInto, Greatest, MaskOver, CountOver}
 
--- the answer, 1 for yes, and 0 where there is none
+-- the answer: 1 for yes, and 0 if there is none
 abbrev pub answer_of : Kernel → List ℕ → List ℕ → ℕ
 answer_of AllLe first second = cond (pointwise nat_le first second) 1 0
 answer_of AllEq first second = cond (pointwise nat_eq first second) 1 0

@@ -1,4 +1,4 @@
-//! Engines, from submit to poll, with reads beside a busy writer, with an exchange, at a glance, and brought back from a journal.
+//! Engines, from submit to poll, with reads next to a busy writer, with an exchange, at a glance, and replayed from a journal.
 
 mod figure;
 mod keeping;
@@ -11,7 +11,7 @@ use ids::Refusal;
 pub use playing::play;
 use std::io;
 
-/// Prints how much engines did that were played; where it is timed also how much a second.
+/// Prints how much the engines did in each play; with times, also how much per second.
 pub fn report(
     rt: &HostRuntime,
     played: Result<Figures, Refusal>,

@@ -1,4 +1,4 @@
-//! Numbers that go into their order one by one, into a vector and into rings: whether both end alike, and how long an insert takes.
+//! Numbers inserted in order one by one, into a vector and into rings: whether both end up the same, and how long an insert takes.
 
 ghost use Rattle.std.specs.Prelude.{◌≡◌, ◌≤◌, length, vec_len};
 
@@ -13,7 +13,7 @@ enum Order {
     Rising,
     Mixed,
     Falling,
-    /// The even ones first, and the odd ones between them, as from a peer that was away.
+    /// The even ones first, and then the odd ones between them, as from a peer that was offline.
     Apart,
 }
 
@@ -24,13 +24,13 @@ const ORDERS: [(&str, Order); 4] = [
     ("apart", Order::Apart),
 ];
 
-/// The greatest count that goes into a vector too, where the last inserts of a million would take minutes.
+/// The greatest count for which a vector is timed too: the last inserts of a million would take minutes.
 const MOST_IN_VECTOR: u64 = 100_000;
 
-/// The nanoseconds of one insert, with a sum of what stands where at the end.
+/// The nanoseconds of one insert, and a checksum of the final order.
 type Inserted = (u64, u64);
 
-/// Prints for each order whether a vector and rings end alike.
+/// Prints for each order whether a vector and rings end up the same.
 pub fn compare<R: Print + CpuClock>(rt: &R, alloc: Global) -> io::Result<()> {
     for (name, order) in ORDERS {
         let flat = into_vector(rt, alloc, order, 2_000)?;
@@ -115,7 +115,7 @@ fn into_rings<R: CpuClock>(
     Ok((taken, sum_of(numbers.as_slice())))
 }
 
-/// The position of a number among rising ones. Binary search.
+/// The position of a number among ascending ones. A binary search.
 fn position_in(numbers: &Rings<u64>, number: u64) -> usize
     ensures { result ≤ length numbers.now.items }
 {
@@ -132,7 +132,7 @@ fn position_in(numbers: &Rings<u64>, number: u64) -> usize
     low
 }
 
-/// A sum that tells lists apart by what stands where.
+/// A checksum of a list that depends on its order.
 fn sum_of(numbers: &[u64]) -> u64 {
     let mut sum: u64 = 0;
     for number in numbers {

@@ -1,4 +1,4 @@
-//! The kernels over counters, each beside a plain loop: whether both answer and write the same, and how long both take.
+//! The kernels over counters, each compared with a plain loop: whether both answer and write the same, and how long both take.
 
 mod agreement;
 mod kernel;

@@ -1,5 +1,5 @@
-//! Compares kernels with plain loops, rings with a vector, and operations with what is read of their lines, and plays engines for a
-//! while. With the word `time` it also tells how long each takes.
+//! Compares kernels with plain loops, rings with a vector, and operations with what is read back from their lines, and plays engines for a
+//! while. With the word `time` it also prints how long each takes.
 #![tactic(auto)]
 
 mod engines;

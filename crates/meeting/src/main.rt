@@ -61,7 +61,7 @@ fn open_alice<A: EngineName, R: Wait>(
     read
 }
 
-/// What both read, with the ends of Alice's engine.
+/// What both read, given the ends of Alice's engine.
 fn with_alice<A: EngineName, R: Wait>(
     rt: &R,
     alloc: Global,
@@ -87,7 +87,7 @@ fn open_bob<B: EngineName, A: EngineName, R: Wait>(
     read
 }
 
-/// What both read, with the ends of Bob's engine.
+/// What both read, given the ends of Bob's engine.
 fn with_bob<B: EngineName, A: EngineName, R: Wait>(
     rt: &R,
     alloc: Global,
@@ -123,7 +123,7 @@ fn engine_of<'a, N: EngineName>(
     }
 }
 
-/// Both write at one key before they have seen the other's value. Then each takes what it lacks.
+/// Both write at one key before they have seen the other's value. Then each takes what it lacks from the other.
 fn edit_and_meet<A: EngineName, B: EngineName, R: Wait>(
     rt: &R,
     alloc: Global,
@@ -154,7 +154,7 @@ fn write<N: EngineName, R: Wait>(
     taken(engine, &ticket)
 }
 
-/// Lets the writer handle all that was submitted, a batch at a step.
+/// Makes the writer handle all that was submitted, one batch per step.
 fn step_all<N: EngineName, R: Wait>(
     rt: &R,
     alloc: Global,
@@ -170,7 +170,7 @@ fn step_all<N: EngineName, R: Wait>(
     Ok(())
 }
 
-/// The first engine takes what it lacks of the second one's operations. What passes between them is bytes.
+/// The first engine takes what it lacks of the second one's operations. Only bytes pass between them.
 fn pull<A: EngineName, B: EngineName, R: Wait>(
     rt: &R,
     alloc: Global,
@@ -197,7 +197,7 @@ fn take<N: EngineName, R: Wait>(
     all_taken(engine, &received)
 }
 
-/// Tests that none of the operations that were received was refused.
+/// Tests that none of the received operations was refused.
 fn all_taken<N: EngineName>(engine: &mut Engine<N>, received: &Received) -> Result<(), Refusal> {
     for number in 0..received.submitted {
         let serial = received.first_serial.saturating_add(number);

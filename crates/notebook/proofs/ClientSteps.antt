@@ -1,4 +1,4 @@
--- What a client is that was just made, and what it has submitted last.
+-- A client that was just made, and what a client has submitted last.
 use Rattle.std.proofs.Common.{◌≡◌, ◌∙◌, ◌+◌, ◌-◌, List, [], ◌∷◌, ◌++◌, All, length, refl, ap, subst, arith}
 use Rattle.std.proofs.Math.ListN.{get_or}
 use Rattle.std.proofs.Math.Seq.{get_or-append_seam}
@@ -29,7 +29,7 @@ pub all_seen : (c : Client) (ops : List Op) → (all_submitted c ops).seen ≡ c
 all_seen c [] = refl
 all_seen c (op ∷ ops) = all_seen (submitted c op) ops
 
--- the ticket of a command that was submitted just now
+-- the ticket of a command that was just submitted
 pub under_last : (c d : Client) (ticket : Ticket) (command : Command) → d ≡ with_request c (request.Command command)
     → ticket.serial ≡ length c.kept + 1 → IsCommandUnder d ticket (command_of command)
 under_last c d ticket command is serial =

@@ -1,4 +1,4 @@
--- Lines that are all of a text's, by how many bytes they have.
+-- Lines that are all lines of a text, judging by how many bytes they have.
 use Rattle.std.proofs.Common.{◌≡◌, ◌≤◌, ◌==◌, ◌+◌, ℕ, zero, suc, Bool, true, false, List, [], ◌∷◌, length, take, refl, ap, arith}
 use Rattle.journal.specs.wire.Lines.{cut, lengthened}
 use Rattle.journal.specs.peer_sync.Receiving.{bytes_of}

@@ -16,9 +16,9 @@ use Rattle.journal.specs.records.Lines.{journal_text}
 use Rattle.store.specs.declared.fault.Fault.{Fault}
 use Rattle.store.specs.declared.fault.Fault.TheVariants.{MustStartAgain}
 
--- the number of its engine; the history out of which it answers peers, and how many entries of it are called stored; what its client has
--- submitted and seen, what its reader has seen, and what is published; what its store has and what of that survives a loss of power, where
--- it says so, and whether that is lost from sight
+-- the number of its engine; the history from which it answers peers, and how many of its entries are called stored; what its client has
+-- submitted and seen, what its reader has seen, and what is published; what its store has and what of that survives a loss of power, if it
+-- says so, and whether that is lost from sight
 pub record Notebook : Type 0 where
   pub own : ℕ
   pub seen : List Entry
@@ -39,8 +39,8 @@ pub record IsMadeOf (G : List Entry) (command : Command) (a : OpId) : Type 0 whe
   pub at : entry_at position G ≡ Some (Own client serial command made)
   pub id : made.id ≡ a
 
--- what a call that stores leaves: all that it saw of the history is called stored, the store has got the lines of what wasn't, and all
--- that it has survives a loss of power
+-- what a call that stores leaves: all that it saw of the history is called stored, the store got the lines of what wasn't, and all that it
+-- has survives a loss of power
 pub record IsSaved (m n : Notebook) : Type 0 where
   pub stored : length n.seen ≤ n.stored
   pub rises : m.stored ≤ n.stored
@@ -53,7 +53,7 @@ pub record IsNotSaved (m n : Notebook) (why : Fault) : Type 0 where
   pub stored : n.stored ≡ m.stored
   pub held : ((why ≡ MustStartAgain) × (n.is_lost ≡ true)) ⊎ ((n.held ≡ m.held) × (n.synced ≡ m.synced) × (n.is_lost ≡ false))
 
--- what each call keeps: the number, and no token has seen less
+-- what each call preserves: the number stays, and no token has seen less
 pub record GoesOn (m n : Notebook) : Type 0 where
   pub own : n.own ≡ m.own
   pub seen : BeginsWith n.seen m.seen

@@ -19,7 +19,7 @@ use std::alloc::Global;
 use store::Store;
 
 impl<N: EngineName, S: Store> Notebook<N, S> {
-    /// Answers a question out of all that is in the document, also of what isn't saved.
+    /// Answers a question from all that is in the document, saved or not.
     ///
     /// # Errors
     /// As `ask` of a `ReaderToken`.
@@ -34,7 +34,7 @@ impl<N: EngineName, S: Store> Notebook<N, S> {
         self.reader.ask(alloc, question)
     }
 
-    /// An element and what stands beneath it, down to a depth and up to a number of elements.
+    /// An element and what is beneath it, to a depth and up to a number of elements.
     ///
     /// # Errors
     /// As `glance` of a `ReaderToken`.

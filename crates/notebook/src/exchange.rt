@@ -21,17 +21,18 @@ use std::alloc::Global;
 use std::sync::Wait;
 use store::{Fault, Store};
 
-/// What became of a bundle.
+/// The outcome of receiving a bundle.
 #[derive(Clone, Copy, Debug, PartialEq, Eq)]
 pub struct Receipt {
-    /// How many operations it brought: those of the lines before the stop. They are applied, wait for others, or were known, but for the
-    /// refused ones. Those that are applied are saved.
+    /// How many operations it brought: those of the lines before the stop. Except for the refused ones, they are applied, wait for others,
+    /// or were known. Those that are applied are saved.
     pub taken: u64,
     /// How many of them were refused.
     pub refused: u64,
-    /// The line, counted from 1, of the first one that was refused, and why.
+    /// The line, counted from 1, of the first refused one, and why.
     pub first_refused: Option<(u64, Refusal)>,
-    /// The line, counted from 1, at which it stopped, and why: the line is bad, or memory or the serials ran out. `None` if all were taken.
+    /// The line, counted from 1, at which the receipt stopped, and why: the line is bad, or memory or the serials ran out. `None` if all
+    /// were taken.
     pub stopped: Option<(u64, Refusal)>,
 }
 
@@ -44,12 +45,12 @@ struct Submitted {
 }
 
 impl<N: EngineName, S: Store> Notebook<N, S> {
-    /// Receives a whole bundle, as `answer` of a peer gives it, stores what of it is applied, and says what became of it. What it brings
-    /// may be received again. The bytes may be of any origin; a bundle that was cut off at its beginning is none, as `receive` of
-    /// `peer_sync` says.
+    /// Receives a whole bundle, as `answer` of a peer gives it, stores what was applied, and returns the outcome. The same operations may
+    /// be received again. The bytes may come from anywhere; a bundle that lost its first lines isn't a bundle, as `receive` of `peer_sync`
+    /// says.
     ///
     /// # Errors
-    /// `MustStartAgain`, `Held` and `Store` as `write`. What was received is in the document all the same, or comes again by an exchange.
+    /// `MustStartAgain`, `Held` and `Store` as `write`. What was received is in the document all the same, or comes again with an exchange.
     pub fn receive(
         &mut self,
         rt: &impl Wait,
@@ -68,7 +69,7 @@ impl<N: EngineName, S: Store> Notebook<N, S> {
         Ok(receipt)
     }
 
-    /// The hello for a peer, by which it knows what is lacking here. It hands out no operation.
+    /// The hello for a peer, which tells it what is missing here. It hands out no operation.
     ///
     /// # Errors
     /// As `hello` of `Outgoing`.
@@ -82,8 +83,8 @@ impl<N: EngineName, S: Store> Notebook<N, S> {
         self.outgoing.hello(alloc)
     }
 
-    /// The answer to a peer's hello: what it lacks of the operations that are stored. `is_beyond` says that the peer knows more of this
-    /// number than stands here: its file was rolled back, or is used twice. Write no more then.
+    /// The answer to a peer's hello: what it lacks of the operations that are stored. `is_beyond` means that the peer knows more of this
+    /// number's operations than are here: this file was rolled back, or is used twice. Write no more then.
     ///
     /// # Errors
     /// As `answer` of `Outgoing`.
@@ -105,7 +106,7 @@ impl<N: EngineName, S: Store> Notebook<N, S> {
     }
 }
 
-/// Submits the operations of a bundle, and steps where the queue is full.
+/// Submits the operations of a bundle, and steps whenever the queue is full.
 fn submit_all<N: EngineName>(
     rt: &impl Wait,
     alloc: Global,
@@ -146,7 +147,7 @@ fn step<N: EngineName>(rt: &impl Wait, alloc: Global, writer: &mut Writer<N>) ->
 }
 
 impl Submitted {
-    /// Counts what of a piece of the bundle was submitted, and where it stopped.
+    /// Counts how much of a piece of the bundle was submitted, and where it stopped.
     fn count(&mut self, received: &Received) {
         if self.taken == 0 {
             self.first_serial = received.first_serial;
@@ -159,7 +160,7 @@ impl Submitted {
     }
 }
 
-/// What became of the operations, once the writer is idle.
+/// The outcome of the operations, once the writer is idle.
 fn receipt_of<N: EngineName>(
     client: &mut Client<N>,
     submitted: &Submitted,
@@ -196,7 +197,7 @@ fn refusal_of<N: EngineName>(
 }
 
 impl Receipt {
-    /// Counts the operation of a line that was refused.
+    /// Counts a refused operation, which is on this line.
     fn refuse(&mut self, line: u64, why: Refusal) {
         if self.refused == 0 {
             self.first_refused = Some((line, why));

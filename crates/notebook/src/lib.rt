@@ -1,8 +1,8 @@
 //! An application that keeps a document in a file: it is there again at each start, and nothing is called saved, or sent, before it would
 //! survive a loss of power.
 //!
-//! A `Journal` is what a store held when it was read. `Notebook::open` goes on from it; `write` and `receive` store what came of them
-//! before they return, and `answer` sends what is stored alone. `FileStore` is a store on a file.
+//! A `Journal` is what a store held when it was read. `Notebook::open` resumes from it; `write` and `receive` store what came of them
+//! before they return, and `answer` sends only what is stored. `FileStore` is a store on a file.
 #![tactic(auto)]
 
 mod asking;
@@ -14,7 +14,7 @@ pub use exchange::Receipt;
 pub use opening::config_of;
 pub use writing::Notebook;
 
-// What else an application names.
+// The other names that an application uses.
 pub use engine::{
     Command, EngineName, Expr, Glance, OpId, Parts, Question, Reading, Refusal, Scalar, Val,
     prepare,

@@ -1,4 +1,4 @@
-//! Opening a notebook: an engine that goes on from a journal.
+//! Opening a notebook: an engine that resumes from a journal.
 
 ghost use Rattle.std.specs.Prelude.{◌≡◌, ◌∷◌, [], ℕ, false, length, IfErr, IfOk};
 ghost use Rattle.ids.specs.declared.refusal.Refusal.TheVariants.{NoMemory};
@@ -39,14 +39,13 @@ pub fn config_of(alloc: Global, own: ReplicaId) -> Result<Config, Refusal>
 }
 
 impl<N: EngineName, S: Store> Notebook<N, S> {
-    /// Opens a notebook that goes on from a journal, whose number is that of the parts. Takes the whole lines; cuts the store behind them;
-    /// syncs it, since what a start reads may be in memory alone; and then calls all of them stored. Costs what receiving as many lines
-    /// costs.
+    /// Opens a notebook that resumes from a journal, with the number of the parts. Takes the whole lines; cuts the store after them; syncs
+    /// it, since what a start reads may be in memory alone; and then calls all of them stored. Costs what receiving as many lines costs.
     ///
     /// # Errors
-    /// The store comes back with why. `Refused` as `open` of an engine has it, also if the parts have no client or fewer than two readers;
-    /// `Damaged` with the first line that doesn't fit, also one without a line feed that doesn't begin like a line: the store is as it was
-    /// then. `Store` if it can't be cut or synced.
+    /// The store is returned with the reason. `Refused` as `open` of an engine, also if the parts have no client or fewer than two readers;
+    /// `Damaged` with the first line that doesn't fit, also one without a line feed that doesn't begin like a line: the store is then
+    /// unchanged. `Store` if it can't be cut or synced.
     pub fn open(
         rt: &impl Wait,
         alloc: Global,
@@ -78,15 +77,15 @@ impl<N: EngineName, S: Store> Notebook<N, S> {
     }
 }
 
-/// The ends of an engine that has gone on from a journal.
+/// The ends of an engine that has resumed from a journal.
 pub struct Ends<N: EngineName> {
     pub writer: Writer<N>,
     pub client: Client<N>,
-    /// The other clients of the configuration, and room for this one.
+    /// The other clients of the configuration, with room for this one.
     pub others: Vec<Client<N>>,
     pub reader: ReaderToken<N>,
     pub outgoing: Outgoing<N>,
-    /// How many bytes the lines have that it went on from.
+    /// How many bytes the replayed lines have.
     pub length: usize,
 }
 
@@ -105,7 +104,7 @@ impl<N: EngineName> Ends<N> {
     }
 }
 
-/// Opens an engine, and lets it go on from the whole lines of these bytes.
+/// Opens an engine, and resumes from the whole lines of these bytes.
 fn begin<N: EngineName>(
     rt: &impl Wait,
     alloc: Global,
@@ -140,7 +139,7 @@ fn begin<N: EngineName>(
     }
 }
 
-/// Closes an engine with all its clients, for one of which there is room among the others.
+/// Closes an engine with all its clients; `others` has room for `client`.
 pub fn end<N: EngineName>(
     rt: &impl Wait,
     writer: Writer<N>,
@@ -152,7 +151,7 @@ pub fn end<N: EngineName>(
     let _final = close(rt, writer, clients);
 }
 
-/// Lets a new engine go on from the whole lines of these bytes. Returns its readers, and how many bytes the lines have.
+/// Resumes a new engine from the whole lines of these bytes. Returns its readers, and how many bytes the lines have.
 fn go_on<N: EngineName>(
     rt: &impl Wait,
     alloc: Global,
@@ -174,7 +173,7 @@ fn go_on<N: EngineName>(
     Ok((reader, outgoing, length))
 }
 
-/// Brings back the whole lines of these bytes, and returns how long they are.
+/// Replays the whole lines of these bytes, and returns how many bytes they have.
 fn replay<N: EngineName>(
     rt: &impl Wait,
     alloc: Global,
@@ -198,7 +197,7 @@ fn replay<N: EngineName>(
     }
 }
 
-/// What answers peers by this token, out of all that the client has seen.
+/// The `Outgoing` of this token, which has seen what the client has.
 fn outgoing_of<N: EngineName>(
     writer: &Writer<N>,
     client: &mut Client<N>,
@@ -213,7 +212,7 @@ fn outgoing_of<N: EngineName>(
     let seen = client.seen_len();
     client.learn(&notice);
     if !token.begins(&notice) || token.seen_len() != seen || client.seen_len() != seen {
-        // Never: what is published is what the client has seen. No contract says so.
+        // Unreachable: what is published is what the client has seen, but no contract says so.
         return Err(Refusal::NoReading);
     }
     Ok(Outgoing::new(token, client.replica()))

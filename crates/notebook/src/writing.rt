@@ -18,8 +18,8 @@ use std::marker::Model;
 use std::sync::Wait;
 use store::{Fault, Shelf, Store};
 
-/// A document in a store, for one thread at a time. What a call of it says is saved, or sends, is there at the next start. Its engine's
-/// writer isn't `Drop`: call `end`.
+/// A document in a store, for one thread at a time. Whatever one of its calls says is saved, or sends, is there at the next start. Its
+/// engine's writer isn't `Drop`: call `end`.
 pub struct Notebook<N: EngineName, S: Store> {
     pub(crate) writer: Writer<N>,
     pub(crate) client: Client<N>,
@@ -52,7 +52,7 @@ impl<N: EngineName, S: Store> Model for Notebook<N, S> {
 }
 
 impl<N: EngineName, S: Store> Notebook<N, S> {
-    /// The notebook of an engine that went on from what is on the shelf: all of that is stored.
+    /// The notebook of an engine that resumed from what is on the shelf: all of that is stored.
     pub(crate) fn of(ends: Ends<N>, shelf: Shelf<S>) -> Notebook<N, S>
         ensures history { (result.own ≡ ends.outgoing.own) × (result.seen ≡ ends.outgoing.seen)
             × (result.stored ≡ length ends.outgoing.seen) × (result.client ≡ ends.client) }
@@ -78,20 +78,19 @@ impl<N: EngineName, S: Store> Notebook<N, S> {
         }
     }
 
-    /// The number that it writes under.
+    /// The number under which it writes.
     pub fn own(&self) -> ReplicaId
         ensures { result ≡ self.now.client.replica }
     {
         self.client.replica()
     }
 
-    /// Has the engine handle a command, and stores what came of it: once this returns the id of its operation, it is saved. Appends to the
-    /// store and syncs it once.
+    /// Makes the engine handle a command, and stores what came of it: once this returns the id of its operation, it is saved. Appends to
+    /// the store and syncs it once.
     ///
     /// # Errors
-    /// `MustStartAgain` if a sync or a cut failed before: nothing is written then. `Refused` as `submit` has it or as the reply says: the
-    /// document has nothing of it. `Held`, `Store`, and `MustStartAgain` by this call's own sync or cut: it is in the document and not
-    /// saved.
+    /// `MustStartAgain` if a sync or a cut failed before: nothing is written then. `Refused` as `submit`, or as the reply says: nothing of
+    /// it is in the document. `Held`, `Store`, and `MustStartAgain` by this call's own sync or cut: it is in the document but not saved.
     pub fn write(&mut self, rt: &impl Wait, alloc: Global, command: Command) -> Result<OpId, Fault>
         ensures made { IfOk result (λ id. IsMadeOf self.new.client.seen (command_of command) id) }
         ensures saved { MatchResult result (λ _. IsSaved self.old self.new) (λ why. IsNotSaved self.old self.new why) }
@@ -106,7 +105,7 @@ impl<N: EngineName, S: Store> Notebook<N, S> {
         Ok(id)
     }
 
-    /// Stores what is in the document and isn't stored: after a `Held` or a `Store`.
+    /// Stores what is in the document but isn't stored, as after a `Held` or a `Store`.
     ///
     /// # Errors
     /// `MustStartAgain`, `Held` and `Store`, as `write`.
@@ -120,7 +119,7 @@ impl<N: EngineName, S: Store> Notebook<N, S> {
         self.store_all(alloc)
     }
 
-    /// Ends the engine with all its clients, and gives back the store. What isn't saved is lost.
+    /// Ends the engine with all its clients, and returns the store. What isn't saved is lost.
     pub fn end(self, rt: &impl Wait) -> S
         ensures { (S.contents result ≡ self.held) × (S.synced result ≡ self.synced) }
     {
@@ -147,15 +146,15 @@ impl<N: EngineName, S: Store> Notebook<N, S> {
         match self.client.poll(ticket)? {
             Some(Reply::Made(id, _)) => Ok(id),
             Some(Reply::Refused(why, _)) => Err(why),
-            // Never: an idle writer has answered all, and a command is made or refused.
+            // Unreachable: an idle writer has answered everything, and a command is either made or refused.
             _ => Err(Refusal::Closed),
         }
     }
 
-    /// Stores the entries that aren't stored, and calls them so once the store has synced them.
+    /// Stores the entries that aren't stored, and calls them stored once the store has synced them.
     ///
     /// # Errors
-    /// `Held` if memory was short for their lines; `MustStartAgain` and `Store` as `put` of the shelf.
+    /// `Held` if an allocation for their lines failed; `MustStartAgain` and `Store` as `put` of the shelf.
     pub(crate) fn store_all(&mut self, alloc: Global) -> Result<(), Fault>
         requires { self.old.is_lost ≡ false }
         ensures saved { MatchResult result (λ _. IsSaved self.old self.new) (λ why. IsNotSaved self.old self.new why) }
@@ -178,10 +177,10 @@ impl<N: EngineName, S: Store> Notebook<N, S> {
     }
 }
 
-/// Has the writer handle and publish all that was submitted.
+/// Makes the writer handle and publish all that was submitted.
 ///
 /// # Errors
-/// `Held` if memory was short in a publish.
+/// `Held` if an allocation failed in a publish.
 pub fn settle<N: EngineName>(
     rt: &impl Wait,
     alloc: Global,

@@ -1,4 +1,4 @@
-//! Notebooks that end and go on from a disk of bytes, as tables that small functions play.
+//! Notebooks that end and resume from a disk of bytes, as tables that small functions play.
 
 mod damaged;
 mod exchanging;
@@ -13,7 +13,7 @@ use std::test::Fail;
 const NEW: &str = r#"["hello",[]]
 "#;
 
-/// Two own commands, an operation of a peer that writes behind them, and an own command about that.
+/// Two own commands, an operation of a peer that inserts after them, and an own command that depends on it.
 const FOUR: &str = r#"["own",[1,1],["assign",["l"],[]]]
 ["own",[2,1],["insert",["l",0],"x"]]
 ["op",[3,2],[[1,2]],[["m",0],["l","l"]],[2,1],["i","y"]]

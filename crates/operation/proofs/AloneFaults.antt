@@ -1,4 +1,4 @@
--- The first fault of an operation alone, by what its tests answer.
+-- The first fault of an operation without a history, by what its tests answer.
 use Rattle.std.proofs.Common.{◌≡◌, Bool, Option}
 use Rattle.semantics.specs.Operations.{Misplaced, element_of, misplaced}
 use Rattle.semantics.specs.Faults.{first_failed, has_counter, items_covered}

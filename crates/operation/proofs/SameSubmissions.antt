@@ -1,4 +1,4 @@
--- Items that are one were submitted as one.
+-- Submissions that the test calls the same are the same in the definitions.
 use Rattle.std.proofs.Common.{◌≡◌, ◌&&◌, ◌==◌, true, refl, sym, ap, true≢false, eqb-true, eq-eqb}
 use Rattle.std.proofs.lemmas.Bool.{and_parts}
 use Rattle.semantics.specs.LegalAnswer.{OfCommand, OfPeer}

@@ -1,4 +1,4 @@
--- What holds of an operation that shows no fault alone.
+-- What holds of an operation that shows no fault without a history.
 use Rattle.std.proofs.Common.{◌≡◌, None, refl}
 use Rattle.semantics.specs.Faults.{StandsAlone}
 use Rattle.semantics.specs.Entries.{stamped_in}

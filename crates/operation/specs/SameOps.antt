@@ -1,4 +1,4 @@
--- When two operations or two commands are one, and that these tests are equalities.
+-- When two operations or two commands are the same, and that these tests are equalities.
 use Rattle.std.specs.Prelude.{◌≡◌, ◌&&◌, Bool, true, false}
 use Rattle.std.proofs.Common.{refl, sym, ap, true≢false}
 use Rattle.std.specs.Bool.{Decides}

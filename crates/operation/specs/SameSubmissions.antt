@@ -1,4 +1,4 @@
--- When two submissions are one: a client tells by it whether an answer is for what it submitted.
+-- When two submissions are the same, by which a client decides whether an answer is for what it submitted.
 use Rattle.std.specs.Prelude.{◌==◌, ◌&&◌, Bool, false}
 use Rattle.operation.specs.SameOps.{is_same_command, is_same_operation}
 use Rattle.operation.specs.Ops.{command_of, stamped_of}

@@ -1,4 +1,4 @@
--- Items and replies of the program as those of the definitions.
+-- Submissions and replies of the program as those of the definitions.
 use Rattle.semantics.specs.LegalAnswer.{Request as TheRequest, OfCommand, OfPeer, Submitted, Reply as TheReply, Made as MadeAs, RefusedAt}
 use Rattle.semantics.specs.LegalAnswer.{KeptAt, KnownAt}
 use Rattle.operation.specs.Ops.{command_of, stamped_of}

@@ -15,9 +15,9 @@ use ids::{MOST_COUNTER, NamedVector, Refusal};
 /// The first fault that can be seen of an operation without a history.
 ///
 /// # Errors
-/// In this order: `BadCounter` if its counter isn't 1 plus the greatest of its vector, or is past the last; `NotInList` for an insert
-/// that stands neither at a head nor at an item; `BadPlace` for an assign or a delete at a head, or if its vector doesn't cover an item
-/// of its place.
+/// In this order: `BadCounter` if its counter isn't 1 plus the greatest of its vector, or is past the greatest counter of an id;
+/// `NotInList` for an insert that stands neither at a head nor at an item; `BadPlace` for an assign or a delete at a head, or if its vector
+/// doesn't cover an item of its place.
 pub fn check_alone(op: &Op) -> Result<(), Refusal>
     ensures { MatchResult result (λ _. alone_fault_of_op op.now ≡ None) (λ why. alone_fault_of_op op.now ≡ Some why) }
 {

@@ -10,18 +10,18 @@ use crate::shared::Shared;
 use cursor::{Expr, Val};
 use std::alloc::AllocError;
 
-/// What a client wants done: a mutation, and the expression of where. Each may be refused with `HistoryFull`, `AtHead`, `PastEnd` or
-/// `TooDeep`, in its reply. Maps and lists come into being as a path goes through them.
+/// What a client wants done: a mutation, and an expression that says where. Each may be refused with `HistoryFull`, `AtHead`, `PastEnd` or
+/// `TooDeep`, in its reply. Maps and lists are created when a path goes through them.
 #[derive(Debug, Drop)]
 pub enum Command {
-    /// Clears the element, with all beneath it, of what this engine had applied, and writes the value. What a peer wrote at the same
-    /// time stays beside it. So assigning `EmptyMap` or `EmptyList` empties what stands there. Refused with `AtHead` at a head.
+    /// Clears the element, with all beneath it, of what this engine had applied, and writes the value. What a peer wrote concurrently stays
+    /// beside it. So assigning `EmptyMap` or `EmptyList` empties what stands there. Refused with `AtHead` at a head.
     Assign(Expr, Val),
-    /// Puts a new item with the value after the item, or first where the expression leads to a head. Refused with `NotInList` where it
-    /// leads to neither.
+    /// Inserts a new item with the value after the item, or first in the list if the expression leads to a head. Refused with `NotInList`
+    /// if it leads to neither.
     InsertAfter(Expr, Val),
-    /// Clears the element, with all beneath it, as an assign does, and writes nothing. An operation is made of it also where nothing
-    /// stands. Refused with `AtHead` at a head.
+    /// Clears the element, with all beneath it, as an assign does, and writes nothing. An operation is made of it even if nothing stands
+    /// there. Refused with `AtHead` at a head.
     Delete(Expr),
 }
 
@@ -42,7 +42,7 @@ impl Command {
     /// The mutation that the command asks for. A text is shared.
     ///
     /// # Errors
-    /// `AllocError` if no one more can share the text.
+    /// `AllocError` if the count of those that share the text is full.
     pub fn mutation(&self) -> Result<Mutation, AllocError>
         ensures { IfOk result (λ m. mutation_of m ≡ (command_of self.now).mutation) }
     {
@@ -94,7 +94,7 @@ impl Eq for Command {
 /// An operation of a history, with where it came from. Clones share the operation and the command.
 #[derive(Debug, Drop)]
 pub enum Entry {
-    /// Made of the command of an own client, under this serial.
+    /// Made of the command of one of this replica's clients, under this serial.
     Own {
         client: usize,
         serial: u64,

@@ -15,7 +15,7 @@ pub use op::{Mutation, Op};
 pub use shared::Shared;
 pub use submission::{Reply, Request, Submission};
 
-// Handed on from the crates below, for users of this one.
+// Re-exported from the crates below, for users of this one.
 pub use cursor::{
     Expr, Hop, Key, MOST_KEY_BYTES, MOST_KEYS, Place, Scalar, Step as ExprStep, Tag, Text, Val,
 };

@@ -1,4 +1,4 @@
-//! What may stand where.
+//! Which mutations may stand at which places.
 
 ghost use Rattle.std.specs.Prelude.{◌≡◌, option_map};
 ghost use Rattle.semantics.specs.Elements.{Value};

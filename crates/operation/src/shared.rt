@@ -1,4 +1,4 @@
-//! Values that are kept once, however many hold them.
+//! Values that are kept once, however many holders they have.
 
 ghost use Rattle.std.specs.Prelude.{◌≡◌, IfOk};
 
@@ -23,7 +23,7 @@ impl<T> Model for Shared<T> {
 }
 
 impl<T: Drop> Shared<T> {
-    /// Moves the value to where its clones will find it.
+    /// Moves the value into memory that its clones share.
     ///
     /// # Errors
     /// `AllocError` if allocation fails.

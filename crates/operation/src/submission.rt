@@ -1,4 +1,4 @@
-//! What clients submit, and what it is answered.
+//! What clients submit, and the answers to it.
 
 ghost use Rattle.std.specs.Prelude.{◌≡◌};
 ghost use Rattle.operation.specs.SameSubmissions.{is_same_submission, is_same_request};

@@ -23,7 +23,7 @@ above_among p [] h a m = absurd m
 above_among p (b ∷ v) h a (inl e) = subst (λ (c : OpId). p < c.replica) (sym e) h.0
 above_among p (b ∷ v) h a (inr m) = above_among p v h.1 a m
 
--- of each replica in it the counter beside it, which isn't 0
+-- for each replica in it its counter there, which isn't 0
 pub at_among : (v : Vector) → IsCanonical v → (a : OpId) → IsAmong a v → (at v a.replica ≡ a.counter) × (a.counter ≢ 0)
 at_among [] c a m = absurd m
 at_among (b ∷ v) c a (inl e) =

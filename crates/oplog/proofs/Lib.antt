@@ -8,6 +8,6 @@ pub mod Room
 pub mod KnownMembers
 pub mod LongerHistories
 pub mod PlacedIds
--- Handed on from the crates below, for users of this one.
+-- Re-exported from the crates below, for users of this one.
 pub use Rattle.operation.proofs.version
 pub use Rattle.operation.proofs as operation

@@ -120,7 +120,7 @@ count-more n f G x (p ∷ ps) distinct member new = at_test (p == (stamped_in x)
         let others = rest m in
         omega (arith, split_x, split, here, others)
 
--- no entry, nothing above
+-- no entry, and so nothing above
 count-none : (n : ℕ) (f : ℕ → ℕ) (ps : List ℕ) → count n (numbers_above (map f ps) (map (λ p. positions_by p []) ps)) ≡ 0
 count-none n f [] = refl
 count-none n f (p ∷ ps) = count-none n f ps

@@ -15,7 +15,7 @@ placed (e ∷ G) a = at_test (is_same_id (stamped_in e).id a) (placed G a)
     at_test true rest = refl
     at_test false rest = rest
 
--- an id that no operation has, has none
+-- an id that no operation has has no position
 pub unplaced : (G : List Entry) (a : OpId) → has_id (applied G) a ≡ false → position_of a G ≡ None
 unplaced G a new = by (position_of a G) (placed G a ∙ new)
   where

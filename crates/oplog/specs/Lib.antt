@@ -1,6 +1,6 @@
 -- What a log holds, and what it finds.
 pub mod Logs
--- Handed on from the crates below, for users of this one.
+-- Re-exported from the crates below, for users of this one.
 pub use Rattle.operation.specs.value
 pub use Rattle.operation.specs.cursor
 pub use Rattle.operation.specs as operation

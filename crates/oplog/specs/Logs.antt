@@ -50,7 +50,7 @@ abbrev pub AreOfMembers : List ℕ → List TheEntry → Type 0
 AreOfMembers table [] = ⊤
 AreOfMembers table (e ∷ G) = AreOfMembers table G × IsTrue (is_member table (stamped_in e).id.replica)
 
--- n columns: for each replica of the table the positions of its operations, and then columns that are empty
+-- n columns: for each replica of the table the positions of its operations, and then empty columns
 abbrev pub columns_for : (n : ℕ) (table : List ℕ) (G : List TheEntry) → List (List (OpId × ℕ))
 columns_for n table G = map (λ p. positions_by p G) table ++ replicate (n - length table) []
 
@@ -73,17 +73,17 @@ pub record IsIndexed (table : List ℕ) (positions : List (Numbered OpId)) (entr
   pub roomy : HaveRoomBut last positions
   pub within : last ≤ length table
 
--- the numbers of the ids above the counter beside each of these maps, one map after the other
+-- for each of these maps in turn, the numbers of the ids above the counter at the same index
 abbrev pub numbers_above : List ℕ → List (List (OpId × ℕ)) → List ℕ
 numbers_above cs [] = []
 numbers_above [] (m ∷ ms) = []
 numbers_above (c ∷ cs) (m ∷ ms) = map (λ e. e.1) (filter (λ e. nat_lt c e.0.counter) m) ++ numbers_above cs ms
 
--- the positions of the operations that the vector doesn't cover, rising
+-- the positions of the operations that the vector doesn't cover, in ascending order
 abbrev pub missing_positions : Vector → List TheEntry → List ℕ
 missing_positions v [] = []
 missing_positions v (e ∷ G) = missing_positions v G ++ (if covers v (stamped_in e).id then [] else length G ∷ [])
 
--- for how many more entries there is room, whose replicas may join, where the rest has room for n
+-- for how many more entries there is room, whose replicas may join, if the room elsewhere is n
 abbrev pub room_beside : (n : ℕ) → Table → List (Numbered OpId) → ℕ
 room_beside n table positions = least_room (min n (min table.room (length positions - length table.numbers))) positions

@@ -7,7 +7,7 @@ mod publish;
 pub use log::{Log, positions_name_what_is_missing, what_may_follow_is_new};
 pub use publish::Publish;
 
-// Handed on from the crates below, for users of this one.
+// Re-exported from the crates below, for users of this one.
 pub use columns::Numbers;
 pub use operation::{
     Command, Delivered, Entry, Expr, ExprStep, GrowingVector, Key, Misplaced, Mutation,

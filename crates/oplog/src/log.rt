@@ -26,7 +26,7 @@ use std::marker::Model;
 pub struct Log {
     table: ReplicaTable,
     entries: Vec<Entry>,
-    /// For each replica of the table the positions of its operations, by their ids; and then a column that is empty, for one that joins.
+    /// For each replica of the table the positions of its operations, by id; and then an empty column, for a replica that joins.
     positions: Vec<Numbers>,
     /// The index of the column that was written to last: the only one that may lack room.
     last: usize,
@@ -90,7 +90,7 @@ impl Log {
         self.entries.get(position)
     }
 
-    /// The entries from a position on, the oldest first: none where the log has no more than that.
+    /// The entries from a position on, the oldest first: none if the log has no more than that.
     pub fn entries_from(&self, position: usize) -> &[Entry]
         ensures { map entry_of result.now ≡ entries_from position self.now.entries }
     {
@@ -105,8 +105,8 @@ impl Log {
         self.positions[index].get(&id)
     }
 
-    /// The positions of the operations that the vector doesn't cover, rising. A binary search for each replica, and a sort of what
-    /// is found.
+    /// The positions of the operations that the vector doesn't cover, in ascending order. A binary search for each replica, and a sort of
+    /// what is found.
     ///
     /// # Errors
     /// `AllocError` if allocation fails.
@@ -135,11 +135,11 @@ impl Log {
         reserve_last(&mut self.positions, self.last)
     }
 
-    /// Appends an entry, for which there is room. Allocates nothing. Moves the positions of its replica's greater ids, of which a
+    /// Appends an entry, for which there must be room. Allocates nothing. Shifts the positions of its replica's greater ids, of which a
     /// legal history has none. A replica that isn't in the table joins it.
     ///
-    /// Its id must be new, as that of an operation that may follow is (`what_may_follow_is_new`). That the table has a place for its
-    /// replica is nothing that a history knows.
+    /// Its id must be new, as that of an operation that may follow is (`what_may_follow_is_new`). That the table has room for its replica
+    /// doesn't follow from the history.
     pub fn push(&mut self, entry: Entry)
         requires room { 0 < self.old.room }
         requires fits { lacks_room self.old.table (stamped_in (entry_of entry)).id.replica ≡ false }
@@ -186,7 +186,7 @@ fn column_with_room(alloc: Global) -> Result<Numbers, AllocError>
     Ok(column)
 }
 
-/// Makes a column of positions behind this many, if there is none.
+/// Appends an empty column of positions, if there are only this many.
 fn reserve_column(
     positions: &mut Vec<Numbers>,
     count: usize,
@@ -205,7 +205,7 @@ fn reserve_column(
     Ok(())
 }
 
-/// Makes room for one more position in the column that was written to last. Each other one has it.
+/// Makes room for one more position in the column that was written to last. Every other column has room.
 fn reserve_last(positions: &mut Vec<Numbers>, last: usize) -> Result<(), AllocError>
     requires inside { last < length positions.old.items }
     requires roomy { HaveRoomBut last positions.old.items }
@@ -218,7 +218,7 @@ fn reserve_last(positions: &mut Vec<Numbers>, last: usize) -> Result<(), AllocEr
     numbers.reserve_one()
 }
 
-/// Puts the position of an operation among those of its replica. Moves none if its id is the greatest of them.
+/// Inserts the position of an operation among those of its replica. Shifts none if its id is the greatest of them.
 fn put_position(positions: &mut Vec<Numbers>, index: usize, id: OpId, position: usize)
     requires inside { index < length positions.old.items }
     requires room { 0 < least_room 1 positions.old.items }
@@ -252,7 +252,7 @@ fn positions_above(
     Ok(above)
 }
 
-/// Appends the number of each id with a greater counter than this, rising by id. A binary search, and one read for each.
+/// Appends the number of each id with a greater counter than this, in ascending order of id. A binary search, and one read for each.
 fn push_numbers(numbers: &mut Vec<usize>, from: &Numbers, counter: u64) -> Result<(), AllocError>
     ensures { OnOk result
         (numbers.new.items ≡ numbers.old.items ++ map (λ e. e.1) (filter (λ e. nat_lt counter e.0.counter) from.now.entries)) }

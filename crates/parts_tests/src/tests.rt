@@ -1,4 +1,4 @@
-//! Limits and examples with values from the rules, and each call once where it succeeds.
+//! Limits and examples with values from the rules, and each call once in a case that succeeds.
 
 mod of_cursor;
 mod of_ids;

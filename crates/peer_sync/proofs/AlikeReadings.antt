@@ -1,4 +1,4 @@
--- Histories with the same operations answer alike.
+-- Histories with the same operations give the same answers.
 use Rattle.std.proofs.Common.{◌≡◌, ℕ, Bool, true, false, not, cond, filter, List, [], ◌∷◌, inl, inr, refl, sym, ap, ◌∙◌}
 use Rattle.semantics.specs.LegalHistory.{IsAmong}
 use Rattle.semantics.specs.Entries.{Entry, IsEntryHistory, missing, stamped_entries}
@@ -27,7 +27,7 @@ filter_passes test (y ∷ xs) x m = at_test (filter_passes test xs x) (test y) r
     at_test rest true e (inr n) = rest n
     at_test rest false e n = rest n
 
--- what is missing in one history, and stands in the other, is missing there
+-- an operation of one history that v lacks is missing in the other too, if the other has it
 missing_there : (v : Vector) (G F : List Stamped) (s : Stamped) → (IsAmong s G → IsAmong s F) → IsAmong s (missing v G)
     → IsAmong s (missing v F)
 missing_there v G F s here a = into_filter (λ t. not (covers v t.id)) F s (here (in_filter (λ t. not (covers v t.id)) G s a))

@@ -1,4 +1,4 @@
--- Lines with their line feeds, and without.
+-- Lines with and without their line feeds.
 use Rattle.std.proofs.Common.{◌≡◌, ◌≢◌, ℕ, List, [], ◌∷◌, ◌++◌, refl, ap}
 use Rattle.std.proofs.lemmas.Bool.{ne_eqb}
 use Rattle.peer_sync.specs.Sending.{without_end}

@@ -1,4 +1,4 @@
--- What is sent as text and read back, what a client has submitted of a text, and what tokens of different engines are answered.
+-- What is sent as text and read back, what a client has submitted of a text, and what tokens of different engines answer.
 pub mod EndedLines
 pub mod SentBack
 pub mod SentHistories

@@ -31,7 +31,7 @@ unmapped : {X Y : Type 0} (P : X → Type 0) (f : Y → X) (ys : List Y) → All
 unmapped P f [] h = All-nil (λ y. P (f y))
 unmapped P f (y ∷ ys) h = All-cons (λ x. P (f x)) y ys (All-head P (f y) (map f ys) h) (unmapped P f ys (All-tail P (f y) (map f ys) h))
 
--- a bundle, where it is read as its operations
+-- a bundle, if it is read as its operations
 pub answer_back : (xs ys : List Op) (ss : List Stamped) (text : List ℕ) → ys ≡ xs → map stamped_of xs ≡ ss
     → (All (λ (o : Op). CanBeSent (stamped_of o)) ys → bundle_form [] text ≡ Ok (map stamped_of ys)) → All CanBeSent ss
     → bundle_form [] text ≡ Ok ss

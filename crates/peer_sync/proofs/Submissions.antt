@@ -1,4 +1,4 @@
--- What a client has submitted of a text, and why it stops.
+-- What a client has submitted of a text, and why it stopped.
 use Rattle.std.proofs.Common.{◌≡◌, ◌≢◌, ◌⊎◌, inl, inr, ℕ, zero, suc, ◌+◌, ◌==◌, cond, Option, Some, None, MatchOption, Ok, Err, List, []}
 use Rattle.std.proofs.Common.{◌∷◌, ◌++◌, length, map, take, false, refl, sym, ap, ◌∙◌, subst, arith, add-one}
 use Rattle.std.proofs.lemmas.List.{length-append, length-map, map-append, take_at}
@@ -32,7 +32,7 @@ kept_count c (o ∷ ops) =
     } ∷ []) in
     omega (arith, more, one)
 
--- submitting counts no full queue
+-- submitting doesn't count a full queue
 full_kept : (c : Client) (ops : List Op) → (all_submitted c ops).found_full ≡ c.found_full
 full_kept c [] = refl
 full_kept c (o ∷ ops) = full_kept (submitted c o) ops
@@ -41,8 +41,8 @@ full_kept c (o ∷ ops) = full_kept (submitted c o) ops
 but_for_full : (d e : Client) → d ≡ e → d ≡ record e { found_full = d.found_full }
 but_for_full d e is = is ∙ ap (λ n. record e { found_full = n }) (sym (ap (λ (k : Client). k.found_full) is))
 
--- client d is c after it submitted the first n operations of the text, which stands beside the start; the rest isn't read yet, and stands
--- beside the base
+-- client d is c after it submitted the first n operations of the text, which is relative to the start; the rest isn't read yet, and is
+-- relative to the base
 pub record HasSubmitted (c : Client) (start : Vector) (text : List ℕ) (d : Client) (base : Vector) (rest : List ℕ) (n : ℕ) : Type 0 where
   pub ops : List Op
   pub count : length ops ≡ n
@@ -68,14 +68,14 @@ module _ (c : Client) (start : Vector) (text : List ℕ) where
         ∙ h.read;
   }
 
-  -- what was submitted are the first operations of the text
+  -- what was submitted is the first operations of the text
   pub first_operations : (d : Client) (base : Vector) (rest : List ℕ) (n : ℕ) (h : HasSubmitted c start text d base rest n)
       → map stamped_of h.ops ≡ take n (readable start text).operations
   first_operations d base rest n h =
       sym (take_at (map stamped_of h.ops) (readable base rest).operations n (length-map h.ops stamped_of ∙ h.count))
       ∙ ap (λ (r : Readable). take n r.operations) h.read
 
-  -- what is left is read as what the text has behind them
+  -- what is left is read as what the text has after them
   pub goes_on : (d : Client) (base : Vector) (rest left : List ℕ) (n : ℕ) → HasSubmitted c start text d base rest n → left ≡ rest
       → GoesOn (readable start text) n (readable base left)
   goes_on d base rest left n h same =
@@ -131,7 +131,7 @@ module _ (c : Client) (start : Vector) (text : List ℕ) where
       stops-denied d e base rest line left n why denied.0 h first denied.1
       (subst (λ k. IsDenied k e why) (full_as_before d base rest n h) denied.2)
 
-  -- bytes that no line feed ends
+  -- bytes without a line feed at the end
   stops-cut : (d : Client) (base : Vector) (rest : List ℕ) (n : ℕ) → HasSubmitted c start text d base rest n → HasNoEnd rest → rest ≢ []
       → StopsAfter (readable start text) n c.found_full d BadLine
   stops-cut d base rest n h whole some =
@@ -154,7 +154,7 @@ module _ (c : Client) (start : Vector) (text : List ℕ) where
       let mapped = length-map h.ops stamped_of in
       (omega (arith, count, mapped, h.count), sym (ap (λ (r : Readable). r.stopped) all))
 
-  -- the end of the lines: all was read, or bytes are left that no line feed ends
+  -- the end of the lines: everything was read, or bytes are left without a line feed at the end
   pub stops-end : (d : Client) (base : Vector) (rest left : List ℕ) (n taken later : ℕ) (stop : Option (ℕ × Refusal))
       → HasSubmitted c start text d base rest n
       → taken ≡ n → HasNoEnd rest → left ≡ rest → later ≡ taken

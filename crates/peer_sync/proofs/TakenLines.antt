@@ -10,7 +10,7 @@ bytes_of-behind : (ls : List (List ℕ)) (l : List ℕ) → bytes_of (ls ++ l �
 bytes_of-behind [] l = omega arith
 bytes_of-behind (k ∷ ls) l = let more = bytes_of-behind ls l in omega (arith, more)
 
--- the first n lines of the text were taken, which have so many bytes, and the rest wasn't yet
+-- the first n lines of the text were taken, which have this many bytes, and the rest not yet
 pub record HasTaken (text rest : List ℕ) (n bytes : ℕ) : Type 0 where
   pub done : List (List ℕ)
   pub count : length done ≡ n
@@ -61,7 +61,7 @@ taken-more text rest line left n bytes more h first is =
           omega (arith, one, two, h.gone_is, is));
     }
 
--- what is left is what stands behind the bytes that were taken
+-- what is left is what comes after the bytes that were taken
 pub left_is : (text rest : List ℕ) (n bytes : ℕ) → HasTaken text rest n bytes → drop bytes text ≡ rest
 left_is text rest n bytes h = (λ i. drop (gone_back i) (split_back i)) ∙ drop-append_seam h.gone rest
   where

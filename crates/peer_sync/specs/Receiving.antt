@@ -17,16 +17,16 @@ abbrev pub all_submitted : Client → List Op → Client
 all_submitted c [] = c
 all_submitted c (op ∷ ops) = all_submitted (submitted c op) ops
 
--- why a client that had found the queue full this often submits no more: its serials are used up; or it has serials, and its engine is
--- closed, or it found the queue full once more
+-- why a client that had found the queue full this often submits no more: its serials are used up; or it has serials left, and its engine is
+-- closed or it found the queue full once more
 abbrev pub IsDenied : (found_full : ℕ) → Client → Refusal → Type 0
 IsDenied n c why =
     ((why ≡ SerialEnd) × (c.serials ≤ length c.kept) × (c.found_full ≡ n))
     ⊎ ((why ≡ Closed) × (length c.kept < c.serials) × (c.found_full ≡ n))
     ⊎ ((why ≡ QueueFull) × (length c.kept < c.serials) × (c.found_full ≡ one_more n))
 
--- why the line after n operations isn't submitted by client c: allocation failed; or it is the bad line; or it is an operation
--- that the client doesn't submit. Only then the queue may have been full
+-- why the line after n operations isn't submitted by client c: allocation failed; or it is the bad line; or it is an operation that the
+-- client doesn't submit. Only in the last case may the queue have been full
 abbrev pub StopsAfter : Readable → ℕ → (found_full : ℕ) → Client → Refusal → Type 0
 StopsAfter r n found c why =
     ((why ≡ NoMemory) × (c.found_full ≡ found))
@@ -37,7 +37,7 @@ StopsAfter r n found c why =
 abbrev pub EndsAfter : Readable → ℕ → Type 0
 EndsAfter r n = (n ≡ length r.operations) × (r.stopped ≡ None)
 
--- what is read of the rest of a text is what the text has behind its first n operations
+-- the rest of a text reads as what the text has after its first n operations
 abbrev pub GoesOn : Readable → ℕ → Readable → Type 0
 GoesOn whole n rest = whole ≡ record { operations = take n whole.operations ++ rest.operations; stopped = rest.stopped }
 

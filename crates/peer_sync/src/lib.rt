@@ -1,8 +1,8 @@
 //! Anti-entropy between engines: the exchange of operations, as lines of JSON.
 //!
-//! An engine says `hello` with the vector of all that it has published. A peer's `answer` is the operations that this vector doesn't
-//! cover, a bundle of lines. A client of the first engine `receive`s the bundle and submits them. The bytes may take any way, late,
-//! twice, in any order or never: what a peer sends is never trusted.
+//! An engine says `hello` with the vector of all that it has published. A peer's `answer` is the operations that this vector doesn't cover,
+//! as a bundle of lines. A client of the first engine `receive`s the bundle and submits them. The bytes may take any route, and arrive
+//! late, twice, in any order or never: what a peer sends is never trusted.
 #![tactic(auto)]
 
 mod agreement;
@@ -13,7 +13,7 @@ pub use agreement::tokens_answer_alike;
 pub use receiving::{Received, receive, receive_on};
 pub use sending::{answer, hello, read_hello};
 
-// Handed on from the crates below, for users of this one.
+// Re-exported from the crates below, for users of this one.
 pub use engine::{
     Client, Command, EngineName, Expr, ExprStep, Key, Parts, Question, ReaderToken, Reading, Reply,
     Scalar, Step, Ticket, Val, Writer, close, open, prepare,

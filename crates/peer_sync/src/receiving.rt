@@ -25,15 +25,15 @@ pub struct Received {
     pub submitted: u64,
     /// How many bytes those lines have, each with its line feed.
     pub bytes: usize,
-    /// The line, counted from 1, at which it stopped, and why; `None` if all lines were submitted.
+    /// The line, counted from 1, at which the receipt stopped, and why; `None` if all lines were submitted.
     pub stopped: Option<(u64, Refusal)>,
 }
 
 /// Submits the operations of a whole bundle, as `receive_on` does with a new reader.
 ///
-/// A line of profile 2 tells what changed since the line before it, and the first one since the empty vector: give bundles whole. The
-/// first lines of a bundle are a bundle, and what is behind them is none: given all the same, it may be refused, or be kept under the
-/// true id as an operation that nobody made, which no exchange mends. To go on after a stop, say hello again, or take `receive_on`.
+/// A line of profile 2 has only what changed since the line before it, and the first one since the empty vector: pass whole bundles. The
+/// first lines of a bundle are a bundle, but the lines after them aren't: if passed all the same, they may be refused, or be kept under a
+/// true id as an operation that nobody made, which no exchange repairs. To go on after a stop, say hello again, or use `receive_on`.
 pub fn receive<N: EngineName>(
     rt: &impl Wait,
     alloc: Global,
@@ -55,16 +55,16 @@ pub fn receive<N: EngineName>(
     receive_on(rt, alloc, client, &mut reader, bundle)
 }
 
-/// Submits the operations of a piece of a bundle, lines of either profile, line by line, and stops at the first line that is bad or that
-/// the client refuses. What came before that line stays submitted, and the reader stands behind it. So a bundle may come in pieces, and a
-/// receipt goes on where it stopped, with what is behind `Received::bytes` and the same reader: once the writer has stepped, where the
-/// queue was full. The bytes may be of any origin. May spin behind another thread that is in the queue, as `Client::deliver`; never waits
-/// for room.
+/// Submits the operations of a piece of a bundle, of lines in either profile, line by line, and stops at the first line that is bad or that
+/// the client refuses. What came before that line stays submitted, and the reader is then after it. So a bundle may come in pieces, and a
+/// receipt can go on where it stopped, with the bytes after `Received::bytes` and the same reader; if the queue was full, once the writer
+/// has stepped. The bytes may come from anywhere. May spin while another thread is in the queue, as `Client::deliver`; never waits for
+/// room.
 ///
-/// The result's stop is a fault of the line itself: `BadLine`, also for bytes after the last line feed, `TooDeep`, `KeyTooLong`,
-/// `TextTooLong` or `NotWhole`; such a line is refused each time. Or it is a refusal of `Client::deliver`: `QueueFull`, for which the
-/// queue was full at one moment of this call, `SerialEnd` or `Closed`; or `NoMemory` if allocation fails. Reads each line whole before it
-/// is judged: bound its length. The reply alone says what becomes of each operation.
+/// The stop in the result is either a fault of the line itself: `BadLine`, also for bytes after the last line feed, `TooDeep`,
+/// `KeyTooLong`, `TextTooLong` or `NotWhole`; such a line is refused each time. Or it is a refusal of `Client::deliver`: `QueueFull`, if
+/// the queue was full at some moment of this call, `SerialEnd` or `Closed`; or `NoMemory` if allocation fails. Reads each line whole before
+/// it is judged: bound its length. What becomes of each operation, only the reply says.
 pub fn receive_on<N: EngineName>(
     rt: &impl Wait,
     alloc: Global,
@@ -114,11 +114,11 @@ fn cut_stop(lines: &Lines) -> Option<(u64, Refusal)>
     Some((number, Refusal::BadLine))
 }
 
-/// Submits the operation on a line, behind which the reader stands then.
+/// Submits the operation on a line, and moves the reader past it.
 ///
 /// # Errors
-/// Those of the line, else those of `Client::deliver`. The reader is as before then, and the client, but that it may have found the queue
-/// full.
+/// Those of the line, else those of `Client::deliver`. The reader is then unchanged, and so is the client, except that it may have found
+/// the queue full.
 fn submit_line<N: EngineName>(
     rt: &impl Wait,
     alloc: Global,

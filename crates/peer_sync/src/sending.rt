@@ -1,4 +1,4 @@
-//! What an engine sends to a peer: its hello, and answers to the hellos of others.
+//! What an engine sends to a peer: its hello, and answers to the peer's hellos.
 
 ghost use Rattle.std.specs.Prelude.{◌≡◌, ◌⊎◌, [], IfOk, IfErr, Ok, Err};
 ghost use Rattle.ids.specs.declared.refusal.Refusal.TheVariants.{NoMemory};
@@ -39,14 +39,13 @@ pub fn hello<N: EngineName>(alloc: Global, token: &mut ReaderToken<N>) -> Result
     Ok(line)
 }
 
-/// The answer to a hello, which is given with its line feed or without it: the lines, each with its line feed, of the operations that
-/// its vector doesn't cover, the oldest first, of all that the token sees in this one read. The token has then seen that. A peer reads
-/// the same operations. Takes time and memory in proportion to what is lacked: for the empty vector the whole history
-/// as one text.
+/// The answer to a hello, which is given with its line feed or without it: the lines, each with its line feed, of the operations that its
+/// vector doesn't cover, the oldest first, of all that the token sees in this one read, which it has then seen. A peer reads the same
+/// operations. Takes time and memory in proportion to what is missing: for the empty vector, that is the whole history as one text.
 ///
 /// # Errors
-/// First `BadLine` if the hello is no such line, as `read_vector` has it; the token is as before then. Then `NoReading` if the copies gave
-/// no reading, `Closed` if the engine is closed: the token may have seen more, never less. `NoMemory`, at any moment, if allocation fails.
+/// First `BadLine` if the hello isn't such a line, as in `read_vector`; the token is then unchanged. Then `NoReading` if the copies gave no
+/// reading, `Closed` if the engine is closed: the token may have seen more, never less. `NoMemory`, at any moment, if allocation fails.
 pub fn answer<N: EngineName>(
     alloc: Global,
     token: &mut ReaderToken<N>,
@@ -65,7 +64,7 @@ pub fn answer<N: EngineName>(
     ensures bad { IfErr (hello_form (without_end hello.now))
         (λ why. ((result ≡ Err why) ⊎ (result ≡ Err NoMemory)) × (token.new ≡ token.old)) }
 {
-    // What a token has seen is an entry history, also where the hello is refused.
+    // What a token has seen is an entry history, even if the hello is refused.
     prove!(token.seen_len() <= usize::MAX);
     let vector = read_hello(alloc, hello)?;
     let ops = token.missing(alloc, &vector)?;
@@ -78,7 +77,7 @@ pub fn answer<N: EngineName>(
 /// The vector of a hello, which is given with its line feed or without it.
 ///
 /// # Errors
-/// `BadLine` if it is no such line, as `read_vector` has it; `NoMemory` if allocation fails.
+/// `BadLine` if it isn't such a line, as in `read_vector`; `NoMemory` if allocation fails.
 pub fn read_hello(alloc: Global, hello: &[u8]) -> Result<NamedVector, Refusal>
     ensures { IsRead (λ v. v) result (hello_form (without_end hello.now)) }
 {

@@ -38,20 +38,20 @@ const FIVE_ALONE: &str = r#"["op",[1,1],[],[],0,["a",{}]]
 const FIRST_LINE: &str = r#"["op2",[1,1],[],[],0,["a",{}]]
 "#;
 
-/// Replica 1 writes at a key; once both have seen that, replica 1 and replica 2 write there apart.
+/// Replica 1 writes at a key; once both have seen that, replica 1 and replica 2 write there concurrently.
 const THREE: &str = r#"["op2",[1,1],[],[["m",0]],"key",["a","A"]]
 ["op2",[2,1],[[1,1]],[["m",0]],"key",["a","B"]]
 ["op2",[2,2],[],[["m",0]],"key",["a","C"]]
 "#;
 
-/// The same, and then replica 3 deletes another key, of which it had seen nothing.
+/// The same, and then replica 3, which had seen nothing, deletes another key.
 const FOUR: &str = r#"["op2",[1,1],[],[["m",0]],"key",["a","A"]]
 ["op2",[2,1],[[1,1]],[["m",0]],"key",["a","B"]]
 ["op2",[2,2],[],[["m",0]],"key",["a","C"]]
 ["op2",[1,3],[[1,0]],[["m",0]],"z",["d"]]
 "#;
 
-/// The line of a replica that isn't a member.
+/// The line of a nonmember.
 const NEWCOMER: &str = r#"["op",[1,4],[],[],0,["d"]]
 "#;
 
@@ -63,6 +63,6 @@ const NEW: &str = r#"["hello",[]]
 const DELETED: &str = r#"["op2",[6,1],[[1,5]],[["m",0],["l","shopping"]],[3,1],["d"]]
 "#;
 
-/// Replica 2 writes over that item.
+/// Replica 2 overwrites that item.
 const HAM: &str = r#"["op2",[6,2],[[1,5]],[["m",0],["l","shopping"]],[3,1],["a","ham"]]
 "#;

@@ -1,4 +1,4 @@
--- The exchanges that add an entry, and name the queue, keep the rule.
+-- The exchanges that add an entry, or name the queue, preserve the rule.
 use Rattle.std.proofs.Common.{◌≡◌, ℕ, ◌+◌, ◌<◌, ◌==◌, Bool, true, false, List, [], ◌∷◌, ◌++◌, length, refl, ap, ◌∙◌, sym, subst, arith, inl}
 use Rattle.std.proofs.Common.{length-append, None}
 use Rattle.std.proofs.lemmas.List.{append-nil}

@@ -1,4 +1,4 @@
--- Prefixes of one list, and the histories that they stand for.
+-- Prefixes of one list, and the histories that they represent.
 use Rattle.std.proofs.Common.{◌≡◌, ◌≤◌, ℕ, Bool, true, false, MatchBool, List, [], ◌∷◌, ◌++◌, length, refl, ap, ◌∙◌, sym, subst, arith}
 use mathlib.Core.List.{IsPrefix}
 use Rattle.semantics.specs.Entries.{Entry as TheEntry}
@@ -11,7 +11,7 @@ use Rattle.published.specs.declared.written.Written.{Written}
 use Rattle.published.specs.declared.written.Written.TheVariants.{Entry as OfEntry, Queue}
 use Rattle.published.specs.Rules.{IsQueueOf, entries_in, queues_in}
 
--- of two prefixes of one list the shorter is a prefix of the longer
+-- of two prefixes of one list, the shorter is a prefix of the longer
 pub prefix_shorter : {A : Type 0} (xs ys zs : List A) → IsPrefix xs zs → IsPrefix ys zs → length xs ≤ length ys → IsPrefix xs ys
 prefix_shorter [] ys zs p q le = (ys, refl)
 prefix_shorter (x ∷ xs) [] zs p q le = absurd (omega arith)
@@ -29,7 +29,7 @@ prefix_whole (x ∷ xs) [] p le = absurd (cc (p.1))
 prefix_whole (x ∷ xs) (y ∷ ys) p le =
     let rest = prefix_whole xs ys (p.0, cc (p.1)) (omega arith) in cc (p.1, rest)
 
--- what was seen, and what has become longer
+-- what was seen, and what has grown since
 pub grown : (xs ys zs : List Entry) (G : List TheEntry) → IsPrefix xs ys → zs ≡ ys → history xs ≡ G
     → BeginsWith (history zs) G
 grown xs ys zs G p same is =
@@ -57,11 +57,11 @@ queue_stays q xs ys p h = (
   sym (ap queues_in p.1) ∙ (queues-append xs p.0 ∙ ap (λ (l : List TableId). l ++ queues_in p.0) h.1),
 )
 
--- two that know of one logbook which queue it names know the same
+-- two values that know from one logbook which queue it names know the same one
 pub one_queue : (q r : TableId) (log : List Written) → IsQueueOf q log → IsQueueOf r log → q ≡ r
 one_queue q r log h k = let e : q ∷ h.0 ≡ r ∷ k.0 = sym h.1 ∙ k.1 in cc
 
--- what an exchange that adds an entry says of the entries alone
+-- what an exchange that adds an entry implies for the entries alone
 pub added_to : (b : Bool) (v w : List Written) (log : List Entry) (asked : Written) (e : Entry) (n : ℕ) → entries_in v ≡ log
     → asked ≡ OfEntry e → IsPrefix v w
     → MatchBool b (entries_in w ≡ entries_in v ++ entries_in (asked ∷ [])) (length (entries_in w) ≡ n)

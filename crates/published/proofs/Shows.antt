@@ -1,4 +1,4 @@
--- A step that only adds entries to what is shown keeps the rule of the copies.
+-- A step that only adds entries to what is shown preserves the rule of the copies.
 use Rattle.std.proofs.Common.{Option, None, Some, option_to_list, ◌≡◌, ◌≢◌, ℕ, ◌+◌, Bool, true, false, cond, List, [], ◌∷◌, ◌++◌, fold}
 use Rattle.std.proofs.Common.{refl}
 use Rattle.std.proofs.Common.{sym, ap, ◌∙◌, subst, ⊎_elim, arith}
@@ -45,7 +45,7 @@ engine_begun own table G F b h = record {
 }
 
 module _ (book : Book) (own : ℕ) (table : List ℕ) where
-  -- every history begins with none
+  -- every history begins with the empty one
   from_none : (G : List TheEntry) → BeginsWith G []
   from_none G = (G, sym (append-nil G))
 
@@ -100,7 +100,7 @@ module _ (book : Book) (own : ℕ) (table : List ℕ) where
   pub reads : (token : ℕ) (v : View) → Turns (HoldsOfCopies book own table) token v (λ x. x) (Sees book own table)
   reads token v x views h at = rises token v x x (begins_self x.entries) h.0 views h at
 
--- an entry that is taken in, or left out, leaves what was there
+-- an entry that is taken in or left out leaves what was there
 taken_begins : (s : Snapshot) (w : Pending) → BeginsWith (applied_to s w).entries s.entries
 taken_begins s w = by (is_lawful s.table s.entries (op_in w.entry))
   where
@@ -117,7 +117,7 @@ fold_sheet : (book : Book) (table : List ℕ) (s : Snapshot) (ws : List Pending)
     → fold applied_to s ws ≡ snapshot book table log → BeginsWith (history log) s.entries
 fold_sheet book table s ws log all = subst (λ (z : Snapshot). BeginsWith z.entries s.entries) all (fold_begins s ws)
 
--- what a publish shows keeps the rule
+-- what a publish shows preserves the rule
 pub shows : (book : Book) (own : ℕ) (table : List ℕ) (token : ℕ) (v : View) (x y : Snapshot) (ws : List Pending) (log : List Entry)
     → fold applied_to x ws ≡ snapshot book table log → IsHistoryOfEngine own table (history log) → y ≡ fold applied_to x ws
     → TurnsAt (HoldsOfCopies book own table) token v x y (Sees book own table)
@@ -143,7 +143,7 @@ module _ (book : Book) (own : ℕ) (table : List ℕ) (s : Snapshot) (ws : List 
   snapshot_legal = subst (IsHistoryOfEngine own table) (ap (λ (z : Snapshot). z.entries) h.stands)
       (engine_begun own table (history all.log) s.entries appended_begins h.all_is)
 
-  -- the history of what is shown, wherever it stands
+  -- the history of what is shown, wherever it is
   pub shown_legal : (log : List Entry) → log ≡ s.log → IsHistoryOfEngine own table (history log)
   shown_legal log is = subst (λ (l : List Entry). IsHistoryOfEngine own table (history l)) (sym is) snapshot_legal
 
@@ -156,7 +156,7 @@ module _ (book : Book) (own : ℕ) (table : List ℕ) (s : Snapshot) (ws : List 
   pending_moved t vs same moved = subst (λ (z : Snapshot). IsPublisher book own table z vs head all) (sym same)
       (subst (λ (l : List Pending). IsPublisher book own table s l head all) (sym moved) h)
 
-  -- all that waits brings what is shown up to an entry history
+  -- everything that waits turns what is shown into an entry history
   pub all_pending : (t : Snapshot) (vs : List Pending) → t ≡ s → vs ≡ ws
       → (log : List Entry) × (fold applied_to t vs ≡ snapshot book table log) × IsHistoryOfEngine own table (history log)
   all_pending t vs same moved = let k = pending_moved t vs same moved in (all.log, k.brought_up, k.all_is)
@@ -193,6 +193,6 @@ module _ (book : Book) (own : ℕ) (table : List ℕ) (s : Snapshot) (ws : List 
         book_is = name ∙ h.book_is;
       }
 
--- no entry is kept aside: what waits is in the log
+-- no entry is set aside: what waits is in the log
 pub flushed : (vs ws : List Pending) (m : Option Pending) → vs ++ option_to_list m ≡ ws → m ≡ None → vs ≡ ws
 flushed vs ws m moved none = sym (append-nil vs) ∙ ap (λ (o : Option Pending). vs ++ option_to_list o) (sym none) ∙ moved

@@ -1,5 +1,5 @@
--- The two copies of the document, and their rule: readers are shown a snapshot of the engine's history, which begins with all
--- that each token has read.
+-- The two copies of the document, and their rule: readers are shown a snapshot of the engine's history, which begins with all that each
+-- token has read.
 use Rattle.std.specs.Prelude.{ℕ, ◌≡◌, ◌+◌, cond, List, ◌∷◌}
 use mathlib.Core.Option.{some}
 use lib.ListN.{get_elem?}
@@ -13,7 +13,7 @@ use Rattle.document.specs.Lawful.{is_lawful}
 use Rattle.published.specs.declared.seen.View.{View}
 use Rattle.published.specs.Beginnings.{IsHistoryOfEngine}
 
--- a copy: the table and the entries of its document, and the beginning of the history that it is to stand for
+-- a copy: the table and the entries of its document, and the beginning of the history that it represents
 pub record Snapshot : Type 0 where
   pub table : List ℕ
   pub entries : List TheEntry
@@ -30,7 +30,7 @@ pub record Pending : Type 0 where
 abbrev pub appended_to : Snapshot → Pending → Snapshot
 appended_to s w = record { table = s.table; entries = entry_of w.entry ∷ s.entries; log = w.log; book = w.book }
 
--- an entry is absorbed where it is lawful, and else left out
+-- an entry is absorbed if it is lawful, and else left out
 abbrev pub applied_to : Snapshot → Pending → Snapshot
 applied_to s w = cond (is_lawful s.table s.entries (op_in w.entry)) (appended_to s w) s
 
@@ -38,7 +38,7 @@ applied_to s w = cond (is_lawful s.table s.entries (op_in w.entry)) (appended_to
 abbrev pub snapshot : Book → List ℕ → List Entry → Snapshot
 snapshot book table log = record { table = table; entries = history log; log = log; book = book }
 
--- the view of a reader that last read these entries, and has made so many reads
+-- the view of a reader that last read these entries, and has made this many reads
 abbrev pub reader_of : List Entry → ℕ → View
 reader_of read reads = record { read = read; reads = reads }
 
@@ -52,7 +52,7 @@ module _ (book : Book) (own : ℕ) (table : List ℕ) where
   HoldsOfCopies shown views = IsSnapshot shown
       × ((token : ℕ) (v : View) → get_elem? views token ≡ some v → BeginsWith shown.entries (history v.read))
 
-  -- what one step reads, which is one read more: what is shown after it, which begins with what was read before
+  -- what one step of reading, counted as one more read, sees: what is shown after it, which begins with what was read before
   abbrev pub Sees : View → Snapshot → Snapshot → View → Type 0
   Sees v before after w = (after ≡ snapshot book table w.read) × IsHistoryOfEngine own table (history w.read)
       × BeginsWith (history w.read) (history v.read) × (w.reads ≡ v.reads + 1)

@@ -1,4 +1,4 @@
--- What holds of a publisher between its calls.
+-- The invariant of a publisher, between its calls.
 use Rattle.std.specs.Prelude.{ℕ, ◌≡◌, List, fold}
 use Rattle.logbook.specs.Pages.{Book, Named}
 use Rattle.document.specs.oplog.Logs.{history}
@@ -6,7 +6,7 @@ use Rattle.published.specs.Beginnings.{Beginning, IsHistoryOfEngine}
 use Rattle.published.specs.Rules.{head_of}
 use Rattle.published.specs.Copies.{Snapshot, Pending, applied_to, snapshot}
 
--- what is shown is a snapshot; once all that is pending was absorbed, or left out, it is the snapshot of all that was appended, which is a
+-- what is shown is a snapshot; once all that is pending was absorbed or left out, it is the snapshot of all that was appended, which is a
 -- history of the engine. So nothing is left out
 pub record IsPublisher (book : Book) (own : ℕ) (table : List ℕ) (shown : Snapshot) (pending : List Pending) (head : Named)
     (all : Beginning) : Type 0 where

@@ -14,12 +14,12 @@ pub record TokenState : Type 0 where
   pub read : List TheEntry
   pub reads : ℕ
 
--- why a token gives no reading, whatever it is asked: an allocation failed, the copies gave none, or the engine is closed
+-- why a token gives no reading to any question: an allocation failed, the copies gave none, or the engine is closed
 abbrev pub GivesNoReading : Refusal → Type 0
 GivesNoReading why = (why ≡ NoMemory) ⊎ (why ≡ NoReading) ⊎ (why ≡ Closed)
 
 module _ {T P A : Type 0} where
-  -- what a reader read last; nothing, where there is no reader
+  -- what a reader read last; nothing, if there is no reader
   abbrev pub read_of : Option (Reader T View P A) → List Entry
   read_of None = []
   read_of (Some r) = (view r.place).read

@@ -32,7 +32,7 @@ impl Rule<Written, u64> for Law {
     ghost moves = { λ ask before after answer. Unit {0} };
 }
 
-/// A step of the logbook trades nothing with its caller.
+/// A step of the logbook exchanges nothing with its caller.
 pub struct Nothing;
 
 impl Gain<Written, u64> for Nothing {
@@ -59,7 +59,7 @@ impl Plain<Entry, Written, u64> for Add {
     ghost state = { λ entry. None };
 }
 
-/// A new, empty history. It allocates nothing beyond its fields; whoever opens an engine names it.
+/// A new, empty history. It allocates nothing beyond its fields; the caller that opens an engine names it.
 #[derive(Drop)]
 pub struct Opened {
     head: Word<Written, u64, Law>,
@@ -135,7 +135,7 @@ impl Point {
         }
     }
 
-    /// Does nothing: its contract says that the two are beginnings of one history, the shorter of the longer.
+    /// Does nothing: its contract says that the two are beginnings of one history, and the shorter is a prefix of the longer.
     pub fn compare(&self, other: &Point)
         requires { other.now.book ≡ self.now.book }
         ensures shorter { length self.now.log ≤ length other.now.log → IsPrefix self.now.log other.now.log }
@@ -146,8 +146,8 @@ impl Point {
         both.learn(&other.seen);
     }
 
-    /// Adds an entry after all that was seen, and says whether it did. It didn't where the history was longer than
-    /// what was seen, which is seen then.
+    /// Adds an entry after all that was seen, and returns whether it did. It doesn't if the history is longer than what was seen; the
+    /// longer one is then seen.
     pub fn extend(&mut self, head: &Word<Written, u64, Law>, entry: &Entry) -> bool
         requires head { head.now ≡ head_of self.old.book }
         requires room { length self.old.log < 2 ^ 62 }

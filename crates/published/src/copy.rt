@@ -16,7 +16,7 @@ use left_right::Absorb;
 use std::alloc::{AllocError, Global};
 use std::marker::Model;
 
-/// A document, and the point of the history that it stands for. That the two agree is the rule of the copies.
+/// A document, and the point of the history that it represents. That the two agree is the rule of the copies.
 #[derive(Drop)]
 pub struct Copy {
     pub alloc: Global,
@@ -64,7 +64,7 @@ impl Absorb<Pending> for Copy {
 
     ghost applied = { applied_to };
 
-    /// Absorbs a clone of the entry, if it is lawful. The first of the two copies does; the entry itself goes to the second.
+    /// Absorbs a clone of the entry, if it is lawful. This is for the first of the two copies; the entry itself goes to the second.
     fn absorb_first(&mut self, operation: &Pending, _other: &Copy) -> Result<(), AllocError> {
         if !is_lawful(&self.document, operation.entry.op()) {
             return Ok(());
@@ -93,7 +93,7 @@ impl Absorb<Pending> for Copy {
     }
 }
 
-/// Whether the operation passes every test of a received one. Absorbing can't rest on a caller's promise: the crate of the copies
+/// Whether the operation passes every test of a received one. Absorbing can't rely on a promise of its caller: the crate of the copies
 /// calls it with whatever was appended. The publisher's invariant shows that each entry passes.
 fn is_lawful(document: &Document, op: &Op) -> bool
     ensures tests { result ≡ is_lawful document.now.members document.now.entries op.now }
@@ -114,7 +114,7 @@ fn stands_alone(op: &Op) -> bool
 /// Appends an entry whose operation may follow.
 ///
 /// # Errors
-/// The entry comes back if allocation fails, and the document is as before.
+/// The entry, if allocation fails; the document is then unchanged.
 fn append(alloc: Global, document: &mut Document, entry: Entry) -> Result<(), Entry>
     requires lawful { MayFollow (applied document.old.entries) (stamped_of (op_in entry)) }
     requires fits { IsFalse (lacks_room (table_after document.old.members document.old.entries) (op_in entry).id.replica) }

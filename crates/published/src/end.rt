@@ -1,4 +1,4 @@
-//! Whether an engine is closed, as its writer tells it to all that read.
+//! Whether an engine is closed, which its writer tells all readers.
 
 ghost use Rattle.std.specs.Prelude.{◌≡◌, ◌⊎◌};
 ghost use Rattle.ids.specs.declared.refusal.Refusal.TheVariants.{Closed, NoReading};
@@ -28,7 +28,7 @@ impl End {
     /// The same end again.
     ///
     /// # Errors
-    /// `AllocError` if there are too many.
+    /// `AllocError` if there are too many references.
     pub fn again(&self) -> Result<End, AllocError> {
         Ok(End {
             closed: Arc::try_clone(&self.closed)?,

@@ -1,7 +1,7 @@
 //! A history that one writer publishes and many readers query without locks, in two copies of a document (left-right).
 //!
-//! The writer appends entries and publishes them. A token is a reader: what it asks is answered from a snapshot, the history as it
-//! was published at one atomic step, which begins with all that the token had seen. Atomic steps, and what each ensures:
+//! The writer appends entries and publishes them. A token is a reader: its questions are answered from a snapshot, the history as it was
+//! published at one atomic step, which begins with all that the token had seen. Atomic steps, and what each ensures:
 //!
 //! - *publish* (the writer, in `Publisher::publish`): what is shown afterwards is the snapshot of all that was appended;
 //! - *enter* (a reader, in `ReaderToken::ask`): what is read is what is shown at that step.
@@ -25,8 +25,8 @@ pub use notice::{EngineName, Notice};
 pub use publisher::{Publisher, open};
 pub use queue_name::{QueueName, Unnamed};
 pub use token::ReaderToken;
-// The name in which whoever uses the copies without an engine knows it.
+// The name of `ReaderToken` for those who use the copies without an engine.
 pub use token::ReaderToken as Seat;
 
-// Handed on from the crates below, for users of this one.
+// Re-exported from the crates below, for users of this one.
 pub use document::{Glance, Hop, Kinds, Reply, Row, Shared, Submission};

@@ -8,8 +8,8 @@ ghost use Rattle.published.specs.Beginnings.{IsHistoryOfEngine};
 use crate::book::Point;
 use std::marker::{Brand, Model, PhantomData};
 
-/// The name of an engine, in proofs alone: the logbook of its history, its own replica number, and its members, rising.
-/// Whoever opens an engine picks a type for it; what carries the same name is of the same engine.
+/// The name of an engine, in proofs alone: the logbook of its history, its own replica number, and its members in ascending order. The
+/// caller that opens an engine picks a type for it; whatever carries the same name is of the same engine.
 pub trait EngineName {
     ghost use Rattle.std.specs.Prelude.{ℕ, List};
     ghost use Rattle.logbook.specs.Pages.{Book};
@@ -21,7 +21,7 @@ pub trait EngineName {
     ghost table: { List ℕ };
 }
 
-/// These stand only where no caller picks others: whoever calls `open` picks them, so that its `requires` hold.
+/// These values hold only if no caller picks others: the caller of `open` picks them so that its `requires` hold.
 impl EngineName for Brand {
     ghost use Rattle.std.specs.Prelude.{[]};
 

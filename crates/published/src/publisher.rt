@@ -32,8 +32,8 @@ use std::alloc::{AllocError, Global};
 use std::marker::Model;
 use std::sync::Wait;
 
-/// The writer's end of the copies, with room for one entry that their log had no room for. It isn't `Drop`: call `end`.
-/// Contracts see what is published and all that was appended, the newest first.
+/// The writer's end of the copies, with space for one entry that their log had no room for. It isn't `Drop`: call `end`. Contracts see what
+/// is published and all that was appended, the newest first.
 pub struct Publisher<N: EngineName> {
     writer: Writer<Copy, Pending, View, Shown<N>>,
     next: Option<Pending>,
@@ -65,7 +65,7 @@ impl<N: EngineName> Model for Publisher<N> {
         ++ option_to_list p.next) p.head p.all };
 }
 
-/// Opens the two copies over two new documents of one table, with a token for each reader. The third names the engine's queue.
+/// Opens the two copies over two new documents of one table, with a token for each reader. The third result names the engine's queue.
 ///
 /// # Errors
 /// `NoReaderPlace` if the copies have no token for one of the readers, `NoMemory` if allocation fails. Nothing is opened then.
@@ -142,7 +142,7 @@ fn tokens<N: EngineName>(
     Ok(tokens)
 }
 
-/// Moves the entry that is kept aside to the log of the copies, and says whether none is kept now.
+/// Moves the entry that was set aside, if any, to the log of the copies. Returns whether none is left aside.
 fn flush<N: EngineName>(
     writer: &mut Writer<Copy, Pending, View, Shown<N>>,
     next: &mut Option<Pending>,
@@ -164,7 +164,7 @@ fn flush<N: EngineName>(
     }
 }
 
-/// Keeps an entry aside. A function of its own keeps the drop of what was there out of its callers' proofs.
+/// Sets an entry aside. It is a function so that dropping the old value stays out of its callers' proofs.
 fn put(next: &mut Option<Pending>, pending: Pending)
     ensures { next.new ≡ Some pending }
 {
@@ -188,7 +188,7 @@ fn show_all<N: EngineName>(
     replace_with(writer, rt, |writer, rt| show::<N, _>(rt, writer))
 }
 
-/// The same on a writer by value, as the crate of the copies has it.
+/// The same for a writer by value, as the crate of the copies requires.
 fn show<N: EngineName, R: Wait>(
     rt: &R,
     writer: Writer<Copy, Pending, View, Shown<N>>,
@@ -225,8 +225,8 @@ impl<N: EngineName> Publisher<N> {
     /// Appends the entry, which readers see from the next `publish` on. Amortized O(1); what was appended is never lost.
     ///
     /// # Errors
-    /// `AllocError` if allocation fails, or if the history were longer than the publisher knows, which only its own appends make it.
-    /// Nothing was appended then, and the entry is dropped.
+    /// `AllocError` if allocation fails, or if the history is longer than the publisher knows: only its own appends extend it, so that
+    /// never happens, but no contract says so. Nothing was appended then, and the entry is dropped.
     pub fn append(&mut self, entry: Entry) -> Result<(), AllocError>
         requires follows { IsEntryHistory N.own (entry_of entry ∷ self.old.appended) }
         requires room { IsFalse (is_full self.old.appended) }
@@ -239,7 +239,7 @@ impl<N: EngineName> Publisher<N> {
             return Err(AllocError);
         }
         let mut after = self.all.again();
-        // Never: only this publisher extends the history. No contract of the logbook says so.
+        // Unreachable: only this publisher extends the history, but no contract of the logbook says so.
         if !after.extend(&self.head, &entry) {
             return Err(AllocError);
         }
@@ -252,11 +252,11 @@ impl<N: EngineName> Publisher<N> {
         Ok(())
     }
 
-    /// Shows readers all that was appended. Waits for readers that still read the copy that is brought up to date.
-    /// Clones each pending entry once.
+    /// Shows readers all that was appended. Waits for readers that still read the copy that is brought up to date. Clones each pending
+    /// entry once.
     ///
     /// # Errors
-    /// `AllocError` if allocation fails. All that is pending stays then, and another `publish` goes on with it.
+    /// `AllocError` if allocation fails. All that is pending then stays pending, and the next `publish` goes on with it.
     pub fn publish(&mut self, rt: &impl Wait) -> Result<(), AllocError>
         ensures { MatchResult result (λ _. (self.new.published ≡ self.old.appended) × (self.new.appended ≡ self.old.appended))
             (λ _. self.new ≡ self.old) }
@@ -272,8 +272,8 @@ impl<N: EngineName> Publisher<N> {
         self.end.close();
     }
 
-    /// Ends the copies and returns the published document, with a notice of it; tokens are told. Waits for readers that still read.
-    /// What is pending is dropped.
+    /// Ends the copies and returns the published document, with a notice of it; tokens are told that the engine is closed. Waits for
+    /// readers that are still reading. What is pending is dropped.
     pub fn end(self, rt: &impl Wait) -> (Document, Notice<N>)
         ensures document { (result.0.members ≡ N.table) × (result.0.entries ≡ self.published) }
         ensures notice { result.1 ≡ self.published }

@@ -1,4 +1,4 @@
-//! Which queue an engine has, as its logbook says: so whatever has a name of one engine is of one queue.
+//! Which queue an engine has, according to its logbook: so everything that has a name of one engine is of one queue.
 
 ghost use Rattle.std.specs.Prelude.{◌≡◌, IfOk};
 ghost use Rattle.atomic_table.specs.Seated.{TableId};
@@ -40,7 +40,7 @@ pub struct Unnamed<N: EngineName> {
     pub ghost book: { seen.book ≡ N.book },
 }
 
-/// Which queue the engine has, known in proofs alone: it has no size.
+/// Which queue the engine has, known in proofs alone: it is zero-sized.
 #[derive(Drop)]
 pub struct QueueName<N: EngineName> {
     seen: Seen<Written, u64, Law>,
@@ -59,10 +59,11 @@ impl<N: EngineName> Unnamed<N> {
         }
     }
 
-    /// Names the queue in whose table this one sits. Allocates nothing.
+    /// Names the queue whose table this seat is in. Allocates nothing.
     ///
     /// # Errors
-    /// `AllocError` if a queue was named before. That never happens: only this names one, and is gone with it. No contract says so.
+    /// `AllocError` if a queue was named before. That never happens: only this value can name one, and it is consumed by that. No contract
+    /// says so.
     pub fn name<S, D>(self, seat: &Seat<S, D>) -> Result<QueueName<N>, AllocError>
         ensures { IfOk result (λ name. IsQueueOf seat.now.table_id name.seen.log) }
     {

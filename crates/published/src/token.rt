@@ -60,9 +60,9 @@ impl<N: EngineName> Outcome<Copy, View> for Sees<N> {
     ghost then = { Sees N.book N.own N.table };
 }
 
-/// A reader of an engine, for one thread at a time. It takes no lock and never waits, and never sees less than before. Contracts see two
-/// histories: the longest that it has read or learnt of, and what was published at the step of its last read; and how many such steps it
-/// has made.
+/// A reader of an engine, for one thread at a time. It takes no lock, never waits, and never sees less than before. Contracts see two
+/// histories, the longest that it has read or learnt of and the one that was published at the step of its last read; and how many such
+/// steps it has made.
 #[derive(Drop)]
 pub struct ReaderToken<N: EngineName> {
     reader: Option<Reader<Copy, View, Shown<N>>>,
@@ -104,7 +104,7 @@ impl<N: EngineName> ReaderToken<N> {
         }
     }
 
-    /// Whether the engine is closed: no reading comes any more, and no answer. Never waits.
+    /// Whether the engine is closed: no more readings or answers come. Never waits.
     pub fn is_closed(&self) -> bool {
         self.end.is_closed()
     }
@@ -128,7 +128,7 @@ impl<N: EngineName> ReaderToken<N> {
         self.seen.len() <= point.len()
     }
 
-    /// Learns of a notice: has seen the longer of the two histories from then on. Both are beginnings of one history. Never waits.
+    /// Learns of a notice: the token has then seen the longer of the two histories. Both are beginnings of one history. Never waits.
     pub fn learn(&mut self, notice: &Notice<N>)
         ensures grows { BeginsWith self.new.seen self.old.seen }
         ensures learns { BeginsWith self.new.seen notice.now }
@@ -142,11 +142,11 @@ impl<N: EngineName> ReaderToken<N> {
         }
     }
 
-    /// Enters the copy that is published at this step, which the token has then seen. Whoever entered leaves again.
+    /// Enters the copy that is published at this step, which the token has then seen, and leaves it again.
     ///
     /// # Errors
     /// If the copies gave no reading that begins with all that the token has seen: `Closed` if the engine is closed, else `NoReading`. The
-    /// token may have seen more then, never less.
+    /// token may then have seen more, never less.
     // Inlined, since a reading is large and would go through memory.
     #[inline(always)]
     fn enter(&mut self) -> Result<Reading<Copy, View, Shown<N>>, Refusal>
@@ -179,11 +179,11 @@ impl<N: EngineName> ReaderToken<N> {
         Ok(reading)
     }
 
-    /// The vector of all that is published at the one step of this read, which the token has then seen. Never waits. Copies a pair for
-    /// each replica of which something was applied.
+    /// The vector of all that is published at the one step of this read, which the token has then seen. Never waits. Copies a pair for each
+    /// replica that has an applied operation.
     ///
     /// # Errors
-    /// `NoReading` and `Closed` as in `ask`, `NoMemory` if allocation fails. The token may have seen more then, never less.
+    /// `NoReading` and `Closed` as in `ask`, `NoMemory` if allocation fails. The token may then have seen more, never less.
     pub fn vector(&mut self, alloc: Global) -> Result<NamedVector, Refusal>
         ensures grows { BeginsWith self.new.seen self.old.seen }
         ensures legal { IsEntryHistory N.own self.new.seen }
@@ -198,7 +198,7 @@ impl<N: EngineName> ReaderToken<N> {
     }
 
     /// The operations that the vector doesn't cover, the oldest first, of all that is published at the one step of this read, which the
-    /// token has then seen. Never waits. Takes time and memory in proportion to what is lacked.
+    /// token has then seen. Never waits. Takes time and memory in proportion to what is missing.
     ///
     /// # Errors
     /// As `vector`.
@@ -248,8 +248,8 @@ impl<N: EngineName> ReaderToken<N> {
     }
 
     /// The entries from a position on, the oldest first, of all that is published at the one step of this read, which the token has then
-    /// seen: none where that has no more entries. Never waits. Takes time and memory in proportion to how many they are, and shares
-    /// operations and commands.
+    /// seen: none if that has no more entries. Never waits. Takes time and memory in proportion to their number, and shares operations and
+    /// commands.
     ///
     /// # Errors
     /// As `vector`.
@@ -266,9 +266,9 @@ impl<N: EngineName> ReaderToken<N> {
         Ok(entries?)
     }
 
-    /// An element at a glance, of all that is published at the one step of this read, which the token has then seen: what stands there
-    /// and, down to so many elements beneath it, what stands beneath, at most so many elements in all. What isn't shown is marked. Never
-    /// waits. Costs a walk along the expression, and what is shown, of which the values and the keys are copied.
+    /// An element at a glance, of all that is published at the one step of this read, which the token has then seen: its content and what
+    /// is beneath it, to a depth of `depth` below it and at most `elements` elements in all. Where something is left out, that is marked.
+    /// Never waits. Costs a walk along the expression, plus what is shown, of which the values and the keys are copied.
     ///
     /// # Errors
     /// As `ask`.
@@ -303,14 +303,13 @@ impl<N: EngineName> ReaderToken<N> {
     }
 
     /// Answers a question from the history that is published at the one step of this read, which the token has then seen: each call makes a
-    /// step of its own. Never waits.
-    /// Costs a walk along the expression, and a copy of what is answered; for items a look at each, tombstones included, of the blocks
-    /// in which one is shown. The answer is also that of the operations as a set (`view`).
+    /// step of its own. Never waits. Costs a walk along the expression, plus a copy of the answer; for items a look at every item,
+    /// tombstones included, in the blocks that have a visible one. The answer is also that of the operations as a set (`view`).
     ///
     /// # Errors
-    /// `AtHead` for a step from a head, or where the expression ends at one; `PastEnd`; `TooDeep`: these are answers at that step too.
+    /// `AtHead` for a step from a head, or if the expression ends at one; `PastEnd`; `TooDeep`: these are answers at that step too.
     /// `NoMemory` if allocation fails. If the copies gave no reading that begins with all that the token has seen: `Closed` if the engine
-    /// is closed, else `NoReading`. After the last three the token may have seen more, never less.
+    /// is closed, else `NoReading`. After any of the last three the token may have seen more, never less.
     pub fn ask(&mut self, alloc: Global, question: &Question) -> Result<Answer, Refusal>
         ensures grows { BeginsWith self.new.seen self.old.seen }
         ensures legal { IsEntryHistory N.own self.new.seen }

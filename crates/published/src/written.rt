@@ -1,10 +1,10 @@
-//! What the logbook of an engine holds. It exists in proofs alone: no value of it is made.
+//! What the logbook of an engine holds. It exists in proofs alone: no value of it is ever made.
 
 use document::Entry;
 use std::collections::LinkedList;
 use std::marker::Model;
 
-/// Which queue it is: what tells one table from all others. Contracts see that table's id.
+/// Which queue it is, by what distinguishes one table from all others. Contracts see that table's id.
 pub struct QueueId {
     words: usize,
     slots: usize,

@@ -1,4 +1,4 @@
-//! A publisher and its tokens: what is asked before and after a publish, and what is learnt.
+//! A publisher and its tokens: what they answer before and after a publish, and what they learn.
 
 ghost use Rattle.std.specs.Prelude.{◌≡◌, ◌≢◌, ◌∷◌, [], false, None, IsTrue, IfOk, OnOk};
 ghost use Rattle.ids.specs.Members.{in_order};
@@ -201,9 +201,9 @@ fn session<N: EngineName, R: Wait + Abort>(
     check_value(rt, alloc, token, None, 0)?;
     publish(rt, publisher, 2)?;
     check_value(rt, alloc, token, Some(8), 2)?;
-    // A token that has read nothing learns what it is told.
+    // A token that has read nothing learns from a notice.
     check_lessons(rt, late, &opening, &publisher.notice());
-    // Replica 5 is no member.
+    // Replica 5 is a nonmember.
     write(rt, alloc, mirror, publisher, (3, 5), 9)?;
     publish(rt, publisher, 3)?;
     check_value(rt, alloc, late, Some(9), 3)?;
@@ -347,14 +347,14 @@ fn assign(
     Ok(Shared::new(alloc, op)?)
 }
 
-/// Whether the operation has no fault alone.
+/// Whether the operation has no fault by itself.
 fn stands_alone(op: &Op) -> bool
     ensures { IsTrue result → alone_fault_of_op op.now ≡ None }
 {
     check_alone(op).is_ok()
 }
 
-/// The fault of an operation of a peer that is ready and has none alone.
+/// The fault, against the history, of a peer's operation that is ready and has none by itself.
 fn check(rt: &impl Abort, document: &Document, op: &Op) -> Result<(), Refusal>
     ensures lawful { OnOk result (MayFollow (applied document.now.entries) (stamped_of op.now)) }
     ensures fits { OnOk result (lacks_room (table_after document.now.members document.now.entries) op.now.id.replica ≡ false) }

@@ -1,4 +1,4 @@
--- Lines that are brought back one after the other.
+-- Lines that are replayed one after the other.
 use Rattle.std.proofs.Common.{◌≡◌, ◌≤◌, ℕ, List, [], ◌∷◌, ◌++◌, length, map, drop, reverse, Ok, sym, ap, ◌∙◌, append_assoc}
 use Rattle.std.proofs.Common.{arith}
 use Rattle.std.proofs.lemmas.List.{drop_all, drop-append-le, length-append, length-reverse, map-append, reverse-append}

@@ -1,5 +1,5 @@
 pub mod BroughtBack
 pub mod ReadBack
 pub mod WrongLengths
--- Handed on from the crate below, for users of this one.
+-- Re-exported from the crate below, for users of this one.
 pub use Rattle.requests.proofs.wire

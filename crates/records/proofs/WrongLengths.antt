@@ -1,4 +1,4 @@
--- A list of another length than a form has is no such form.
+-- A list whose length isn't that of a form doesn't have that form.
 use Rattle.std.proofs.Common.{◌≡◌, ◌≢◌, List, [], ◌∷◌, length, Err, refl}
 use Rattle.std.proofs.lemmas.Bool.{ltb-true, ltb-false}
 use Rattle.ids.specs.declared.refusal.Refusal.TheVariants.{BadLine}
@@ -12,5 +12,5 @@ commanded_of-wrong_length (a ∷ []) h = refl
 commanded_of-wrong_length (a ∷ b ∷ []) h = absurd (h refl)
 commanded_of-wrong_length (a ∷ b ∷ d ∷ xs) h = refl
 
--- each with what a pattern of a slice tests of its length
+-- each with what a slice pattern tests of its length
 pub ruleset record_lengths = (ltb-true, ltb-false, commanded_of-wrong_length)

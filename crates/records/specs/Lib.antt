@@ -1,6 +1,6 @@
--- The lines of a journal, what they bring back, and when some of them are lost.
+-- The lines of a journal, what they bring back, and how a loss of some of them shows.
 pub mod Lines
 pub mod Replays
 pub mod Lost
--- Handed on from the crate below, for users of this one.
+-- Re-exported from the crate below, for users of this one.
 pub use Rattle.requests.specs.wire

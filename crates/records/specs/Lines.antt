@@ -19,7 +19,7 @@ use Rattle.requests.specs.wire.Sent.{IsSent, IsSentId}
 
 -- ---- writing, in JSON without spaces
 
--- an own command behind the id of what was made of it, or an operation as the first profile has it
+-- an own command after the id of what was made of it, or an operation as in the first profile
 abbrev pub record_json : Recorded → Data
 record_json (Commanded a c) = phrase (codes "own") (id_json a ∷ command_json c ∷ [])
 record_json (Received s) = operation_json s
@@ -40,7 +40,7 @@ commanded_of (item id (item command no_items)) = and_then (λ a. and_then (λ c.
     (id_form id)
 commanded_of _ = Err BadLine
 
--- by its word: what stands behind it, or an operation
+-- by its word: what follows it, or an operation
 abbrev pub worded_record : Data → List ℕ × Items → Result Recorded Refusal
 worded_record d p = if bytes_eq p.0 (codes "own") then commanded_of p.1 else and_then (λ s. Ok (Received s)) (operation_form d)
 

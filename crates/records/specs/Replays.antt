@@ -8,7 +8,7 @@ use Rattle.records.specs.declared.record.Recorded.{Recorded}
 use Rattle.records.specs.declared.record.Recorded.TheVariants.{Commanded, Received}
 use Rattle.records.specs.Lines.{record_form}
 
--- a record of the program
+-- what a record of the program means
 abbrev pub record_meant : Recorded → TheRecorded
 record_meant (Commanded a c) = TheCommanded a (command_of c)
 record_meant (Received op) = TheReceived (stamped_of op)

@@ -1,4 +1,4 @@
-//! The lines of a journal, each by itself.
+//! The lines of a journal, one at a time.
 #![tactic(auto, using(crate::proofs::WrongLengths::record_lengths))]
 
 ghost use Rattle.std.specs.Prelude.{◌≡◌, IsUtf8, Ok};
@@ -16,7 +16,7 @@ use requests::{
 use serde_json::Value;
 use std::alloc::Global;
 
-/// What a line of a journal says of an entry.
+/// What a line of a journal records of an entry.
 #[derive(Debug, Drop)]
 pub enum Recorded {
     /// The id of an own operation, and the command that it was made of.
@@ -25,7 +25,7 @@ pub enum Recorded {
     Received(Shared<Op>),
 }
 
-/// How the line of an own command begins where `lines_of` wrote it.
+/// The beginning of an own command's line, as `lines_of` writes it.
 const OWN: &[u8] = b"[\"own\"";
 
 /// What a line of a journal, without its line feed, records.

@@ -1,4 +1,4 @@
-//! How far the lines of a journal were brought back, and whether an entry is the one that its line says.
+//! How far a journal was replayed, and whether an entry is the one that its line records.
 
 ghost use Rattle.std.specs.Prelude.{◌≡◌, ◌⊎◌, ◌+◌, ◌<◌, ◌^◌, [], ◌∷◌, IfErr, OnOk, map, IsTrue};
 ghost use Rattle.semantics.specs.Journals.{recorded};
@@ -15,11 +15,11 @@ use std::alloc::AllocError;
 /// Why a line of a journal wasn't taken.
 #[derive(Clone, Copy, Debug, PartialEq, Eq)]
 pub enum Unfit {
-    /// The line is bad, or the engine refuses what it says.
+    /// The line is bad, or the engine refuses what it records.
     Refused(Refusal),
-    /// Its command would make another id than it says: this one.
+    /// Its command would make this id, which isn't the one that the line says.
     OtherId(OpId),
-    /// The operation of a peer wasn't applied at once: it is known, or it depends on what stands in no line before it.
+    /// The operation of a peer wasn't applied at once: it is known, or it depends on something that no earlier line has.
     NotApplied,
     /// More was published than this line: someone else writes to the engine.
     NotAlone,
@@ -48,14 +48,14 @@ impl From<AllocError> for Unfit {
     }
 }
 
-/// How far a journal was brought back.
+/// How far a journal was replayed.
 #[derive(Clone, Copy, Debug, PartialEq, Eq)]
 pub struct Replayed {
     /// How many lines were taken: each is an entry of the history now.
     pub entries: u64,
     /// How many bytes those lines have, each with its line feed.
     pub bytes: usize,
-    /// The line, counted from 1, at which it stopped, and why; `None` if all lines were taken.
+    /// The line, counted from 1, at which the replay stopped, and why; `None` if all lines were taken.
     pub stopped: Option<(u64, Unfit)>,
 }
 
@@ -71,10 +71,10 @@ impl Replayed {
     }
 }
 
-/// Tests that the entries are the one that a line says, and returns the counter of its operation.
+/// Tests that there is one entry and that it is what a line records, and returns the counter of its operation.
 ///
 /// # Errors
-/// `NotApplied` where there is no entry, `NotAlone` where there are others than that one.
+/// `NotApplied` if there is no entry, `NotAlone` if there are entries other than the recorded one.
 pub fn check_recorded(entries: &[Entry], said: &Recorded) -> Result<u64, Unfit>
     ensures ok { OnOk result (map recorded (map entry_of entries.now) ≡ record_meant said.now ∷ []) }
     ensures err { IfErr result (λ why. ((why ≡ NotApplied) × (entries.now ≡ [])) ⊎ (why ≡ NotAlone)) }
@@ -86,7 +86,7 @@ pub fn check_recorded(entries: &[Entry], said: &Recorded) -> Result<u64, Unfit>
     }
 }
 
-/// Whether a line says this entry.
+/// Whether a line records this entry.
 fn is_recorded(entry: &Entry, said: &Recorded) -> bool
     ensures { IsTrue result → recorded (entry_of entry.now) ≡ record_meant said.now }
 {

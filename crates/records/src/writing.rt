@@ -12,7 +12,7 @@ use requests::{Command, Entry, LINE_END, put_command, put_id, put_op};
 use std::alloc::{AllocError, Global};
 
 /// A line of each entry, with its line feed: an own one as `["own",ID,COMMAND]`, one that a peer sent as its line in the first profile.
-/// Takes time and memory in proportion to how many they are.
+/// Takes time and memory in proportion to their number.
 ///
 /// # Errors
 /// `AllocError` if allocation fails.
@@ -20,7 +20,8 @@ pub fn lines_of(alloc: Global, entries: &[Entry]) -> Result<Vec<u8>, AllocError>
     ensures { IfOk result (λ text. text.items ≡ journal_text (map entry_of entries.now)) }
 {
     let mut text = Vec::new(alloc);
-    // A line is written apart, and copied: the writer clears the room that its text has left, which for a long text is much.
+    // Each line is written to a buffer of its own and copied: the writer clears its buffer's spare capacity, which is large for a long
+    // text.
     let mut line = Vec::new(alloc);
     for entry in entries {
         line.clear();
@@ -31,7 +32,7 @@ pub fn lines_of(alloc: Global, entries: &[Entry]) -> Result<Vec<u8>, AllocError>
     Ok(text)
 }
 
-/// The text with the line of an entry after what it holds.
+/// The text followed by the line of an entry.
 fn with_record(text: Vec<u8>, entry: &Entry) -> Result<Vec<u8>, AllocError>
     ensures { IfOk result (λ t. t.items ≡ text.items ++ record_line (recorded (entry_of entry.now))) }
 {
@@ -50,7 +51,7 @@ fn put_record(out: &mut Writer, entry: &Entry) -> Result<(), AllocError>
     }
 }
 
-/// Writes an own command behind the id of what was made of it.
+/// Writes an own command after the id of what was made of it.
 fn put_own(out: &mut Writer, id: OpId, command: &Command) -> Result<(), AllocError>
     ensures { OnOk result (IsWritten (tokens_of (record_json (Commanded id (command_of command.now)))) out.old out.new) }
 {

@@ -79,7 +79,7 @@ module _ {r : Replica} {h0 h : Publication} {q : Replica} {least : ℕ} (w : IsU
           published = ap (λ (x : Publication). x.published) is ∙ w.published;
         }
 
-  -- the shelf has another name
+  -- the publication has another name
   pub renamed : (g : Publication) → g ≡ h → IsUnderWay r h0 g q least
   renamed g e = subst (λ (x : Publication). IsUnderWay r h0 x q least) (sym e) w
 

@@ -47,7 +47,7 @@ pub still_alone : (r : Running) (ws : List Op) → IsReplica r → ((o : Op) →
     → StandAlone ws
 still_alone r ws h left o m = h.alone o (left o m)
 
--- q is r after one turn, and a replica
+-- q is r after one turn, and its invariant holds
 pub record IsTurned (r q : Running) : Type 0 where
   pub after : replica_of q ≡ drain_for 1 (replica_of r)
   pub good : IsReplica q

@@ -11,7 +11,7 @@ pub mod Received
 pub mod Own
 pub mod Draining
 pub mod Peers
--- Handed on from the crates below, for users of this one.
+-- Re-exported from the crates below, for users of this one.
 pub use Rattle.inbox.proofs.version
 pub use Rattle.inbox.proofs.operation
 pub use Rattle.inbox.proofs.oplog

@@ -122,7 +122,7 @@ alike_for (suc n) r x y e = at_full (λ q u v f. alike_for n q u v f) (is_full r
 min_twice : (x m : ℕ) → min (min x m) m ≡ min x m
 min_twice x m = omega arith
 
--- turns after a count go on as without it
+-- turns that follow a count go on as if nothing had been counted
 pub counted_for : (n m : ℕ) (r q : Replica) → q ≡ counted (drain_for n r) → counted (drain_for m q) ≡ counted (drain_for (n + m) r)
 counted_for n m r q e =
     ap (λ p. counted (drain_for m p)) e

@@ -2,7 +2,7 @@
 pub mod Replicas
 pub mod Turns
 pub mod Handlers
--- Handed on from the crates below, for users of this one.
+-- Re-exported from the crates below, for users of this one.
 pub use Rattle.inbox.specs.value
 pub use Rattle.inbox.specs.cursor
 pub use Rattle.inbox.specs.operation

@@ -11,7 +11,7 @@ use Rattle.replica.specs.Replicas.{next_in}
 use Rattle.replica.specs.declared.waiting.Turn.{Turn}
 use Rattle.replica.specs.declared.waiting.Turn.TheVariants.{Append, Drop}
 
--- the next one that leaves has this id and no fault, and can be appended with no memory taken
+-- the next one that leaves has this id and no fault, and can be appended without allocating
 pub record IsAppended (d : Contents) (ws : List Op) (a : OpId) : Type 0 where
   pub next : Stamped
   pub is_next : next_in d ws ≡ Some next
@@ -27,7 +27,7 @@ pub record IsDropped (d : Contents) (ws : List Op) (a : OpId) : Type 0 where
   pub why : Refusal
   pub fault : check_fault d.members (stamped_entries d.entries) next ≡ Some why
 
--- what a turn does where these wait beside the document
+-- what a turn does with this document and where these wait
 abbrev pub IsNextTurn : Contents → List Op → Option Turn → Type 0
 IsNextTurn d ws None = next_in d ws ≡ None
 IsNextTurn d ws (Some (Append a)) = IsAppended d ws a

@@ -40,7 +40,7 @@ impl Handler {
         }
     }
 
-    /// Goes on with a drain that a failed allocation ended early, if there is one. It may end early again.
+    /// Resumes the drain that a failed allocation ended early, if there is one. It may end early again.
     pub fn resume<P: Publish>(&mut self, alloc: Global, publisher: &mut P)
         requires holds { Holds (P.publication publisher.old) (replica_of self.old.replica) }
         ensures resumed { Resumes (handler_of self.old) (handler_of self.new) }
@@ -52,11 +52,11 @@ impl Handler {
         }
     }
 
-    /// Handles a submission: appends what the rules make of a command, or delivers a peer's operation and drains the inbox.
-    /// The reply says what was made or kept, or why not. A command and an operation are kept as they came, however many keep them.
+    /// Handles a submission: appends what the rules make of a command, or delivers a peer's operation and drains the inbox. The reply says
+    /// what was made or kept, or why not. A command or an operation is shared, not copied, however many keep it.
     ///
-    /// If allocation fails for a command or for the delivery, the reply is `Refused(NoMemory, ..)` and nothing has changed. If it
-    /// fails in the drain after the delivery, the drain ends early; the next delivery's drain, or `resume`, goes on with it.
+    /// If allocation fails for a command or for the delivery, the reply is `Refused(NoMemory, ..)` and nothing has changed. If it fails in
+    /// the drain after the delivery, the drain ends early; the next delivery's drain, or `resume`, continues it.
     pub fn handle<P: Publish>(
         &mut self,
         alloc: Global,
@@ -140,7 +140,7 @@ impl Handler {
 /// Delivers a peer's operation.
 ///
 /// # Errors
-/// The refusal that the rules have, or `NoMemory` if allocation fails; then nothing has changed.
+/// The refusal of the rules, or `NoMemory` if allocation fails; then nothing has changed.
 fn deliver(replica: &mut Replica, op: &Shared<Op>) -> Result<Delivered, Refusal>
     ensures delivered { let s = stamped_of op.now in
         result ≢ Err NoMemory
@@ -161,7 +161,7 @@ fn reply_to(answer: Result<Delivered, Refusal>, length: u64) -> Reply
     }
 }
 
-/// Appends what was made of a command, the entry to the publisher first.
+/// Appends what was made of a command, first the entry to the publisher.
 ///
 /// # Errors
 /// `AllocError` if allocation fails. Nothing has changed then.

@@ -9,7 +9,7 @@ mod waiting;
 pub use handler::Handler;
 pub use replica::Replica;
 
-// Handed on from the crates below, for users of this one.
+// Re-exported from the crates below, for users of this one.
 pub use inbox::{
     Command, Delivered, Document, Entry, Expr, ExprStep, GrowingVector, Key, NamedVector, Op,
     Publish, Question, Reading, Reply, Request, Scalar, Shared, Submission, Tag, Text, Val,

@@ -56,7 +56,7 @@ pub fn make(
     })
 }
 
-/// Tests whether what the command does may stand at this place.
+/// Tests whether the command's mutation may stand at this place.
 fn check_place(command: &Command, place: &Place) -> Result<(), Refusal>
     ensures { MatchResult result
         (λ _. place_unless (misplaced (command_of command.now).mutation place.now) place.now ≡ Ok place.now)

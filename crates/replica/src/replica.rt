@@ -88,14 +88,14 @@ impl Replica {
         self.document.len()
     }
 
-    /// How many operations of peers were dropped because they turned out to be unlawful. Stays at 18446744073709551615.
+    /// How many operations of peers were dropped because they turned out to be unlawful. Saturates at 18446744073709551615.
     pub fn dropped(&self) -> u64
         ensures { result ≡ self.now.dropped }
     {
         self.dropped
     }
 
-    /// The operation that the command makes after the history. Reserves all that committing it needs, and changes no content.
+    /// The operation that the command makes after the history. Reserves everything that committing it needs, and changes no content.
     ///
     /// # Errors
     /// In this order: `HistoryFull`; the refusal of the expression; `NotInList` for an insert that would stand neither at a head
@@ -115,7 +115,7 @@ impl Replica {
         Ok(op)
     }
 
-    /// Appends what the last `make` returned, under a serial above each that the client had. Allocates nothing.
+    /// Appends what the last `make` returned, under a serial greater than any that the client had. Allocates nothing.
     pub fn commit_own(
         &mut self,
         client: usize,
@@ -137,7 +137,7 @@ impl Replica {
         });
     }
 
-    /// As `commit_own`, for an entry that stands ready. Allocates nothing.
+    /// As `commit_own`, for an entry that is already made. Allocates nothing.
     pub(crate) fn commit_made(&mut self, entry: Entry)
         requires { IsNextOwn self.old entry }
         ensures { replica_of self.new
@@ -146,16 +146,16 @@ impl Replica {
         self.document.commit(entry);
     }
 
-    /// Keeps an operation of a peer in the inbox until it is causally ready. Nothing is applied here: that is for `next_ready` and
-    /// `commit_peer`, or `drain`.
+    /// Keeps an operation of a peer in the inbox until it is causally ready. Applies nothing: `next_ready` and `commit_peer`, or `drain`,
+    /// do that.
     ///
-    /// `Known` if an operation with its id was applied or waits, whatever else it holds. The operation is dropped, unless it is `Kept`.
-    /// Costs binary searches in the log and the inbox, for a ready one also what `Document::check` does.
+    /// `Known` if an operation with its id was applied or waits, whatever else is in it. The operation is dropped, unless it is `Kept`.
+    /// Costs binary searches in the log and the inbox, and for a ready operation also what `Document::check` does.
     ///
     /// # Errors
-    /// The first of these that holds, and then the replica is as it was: those of `check_alone`; then, unless the operation is
-    /// known, `OwnName` for the own number, `HistoryFull`, and `InboxFull`; and those of `Document::check` if it is ready. Or
-    /// `NoMemory` if allocation fails.
+    /// The first of these that applies, and then the replica stays as it was: those of `check_alone`; then, unless the operation is known,
+    /// `OwnName` for the own number, `HistoryFull`, and `InboxFull`; and those of `Document::check` if it is ready. Or `NoMemory` if
+    /// allocation fails.
     pub fn deliver(&mut self, op: Shared<Op>) -> Result<Delivered, Refusal>
         ensures answer { MatchResult result
             (λ d. answer_to (replica_of self.old) (stamped_of op) ≡ delivered_of d)
@@ -172,12 +172,12 @@ impl Replica {
         self.inbox.put(op, &self.document)
     }
 
-    /// The next operation of a peer that `commit_peer` appends: the smallest one that is ready, or `None` if there is
-    /// none or the history is full. Drops and counts what is smaller, ready and unlawful. Reserves all that committing it needs.
-    /// A search of the inbox for each that is dropped, and one more.
+    /// The next operation of a peer that `commit_peer` appends: the smallest one that is ready, or `None` if there is none or the history
+    /// is full. Drops and counts smaller ones that are ready and unlawful. Reserves everything that committing it needs. A search of the
+    /// inbox for each that is dropped, and one more.
     ///
     /// # Errors
-    /// `AllocError` if allocation fails. What was dropped stays dropped then, and nothing else has changed.
+    /// `AllocError` if allocation fails. What was dropped then stays dropped, and nothing else has changed.
     pub fn next_ready(&mut self, alloc: Global) -> Result<Option<Shared<Op>>, AllocError>
         ensures dropped { (n : ℕ) × (replica_of self.new ≡ counted (drain_for n (replica_of self.old)))
             × (self.new.document.entries ≡ self.old.document.entries) }
@@ -205,11 +205,11 @@ impl Replica {
         self.document.commit(Entry::Peer(op));
     }
 
-    /// Appends or drops all that is ready, and all that becomes ready by that, the smallest id first, until the history is full.
-    /// Each that is appended goes to the publisher first, and both share it. A search of the inbox for each of them.
+    /// Appends or drops each operation that is ready, and each that becomes ready by that, the smallest id first, until the history is
+    /// full. An operation that is appended goes to the publisher first, and both share it. A search of the inbox for each of them.
     ///
     /// # Errors
-    /// `AllocError` if allocation fails. The drain has ended early then, and another goes on with it.
+    /// `AllocError` if allocation fails. The drain has then ended early, and another one continues it.
     pub fn drain<P: Publish>(&mut self, alloc: Global, publisher: &mut P) -> Result<(), AllocError>
         requires holds { Holds (P.publication publisher.old) (replica_of self.old) }
         ensures drained { OnOk result (replica_of self.new ≡ counted (drain (replica_of self.old))) }
@@ -229,8 +229,8 @@ impl Replica {
         Ok(())
     }
 
-    /// Drops what is ready and unlawful until the next one is lawful, and reserves all that committing that one needs. Returns
-    /// its id, or `None` if there is none.
+    /// Drops what is ready and unlawful until the next one is lawful, and reserves everything that committing that one needs. Returns its
+    /// id, or `None` if there is none.
     fn prepare(&mut self, alloc: Global) -> Result<Option<OpId>, AllocError>
         ensures dropped { (n : ℕ) × (replica_of self.new ≡ counted (drain_for n (replica_of self.old)))
             × (self.new.document.entries ≡ self.old.document.entries) }

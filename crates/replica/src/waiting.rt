@@ -50,7 +50,7 @@ fn check_ready(document: &Document, op: &Op) -> Result<(), Refusal>
 /// What the next turn of a drain does with the smallest ready operation.
 #[derive(Clone, Copy)]
 pub enum Turn {
-    /// It is lawful and appended. All that committing it needs is reserved.
+    /// It is lawful and appended. Everything that committing it needs is reserved.
     Append(OpId),
     /// It is unlawful and dropped.
     Drop(OpId),

@@ -1,5 +1,5 @@
-//! What replicas answer, and what they keep, as the rules have it. Each test is turns that a replica takes in order, and the
-//! history that they leave.
+//! What replicas answer and keep, according to the rules. Each test is a list of turns that a replica takes in order, and the history that
+//! they leave.
 
 mod deliveries;
 mod full;

@@ -4,5 +4,5 @@ pub mod ReadBack
 pub mod Tokens
 pub mod WrittenBack
 pub mod WrongLengths
--- Handed on from the crates below, for users of this one.
+-- Re-exported from the crates below, for users of this one.
 pub use Rattle.wire.proofs as wire

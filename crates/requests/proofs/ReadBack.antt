@@ -32,7 +32,7 @@ command_back c h = by c.mutation h.mutation
     by (Insert v) w = rw (steps_back c.expression h.expression, value_back v w) refl
     by Delete w = rw (steps_back c.expression h.expression) refl
 
--- what types keep and a caller answers for is all that a step wants
+-- what types guarantee and a caller answers for is all that a step needs
 steps_sent : (e : List Step) → AreTypedSteps e → HasCounters e → AreSentSteps e
 steps_sent [] typed counted = tt
 steps_sent (Get key ∷ e) typed counted = (typed.0, steps_sent e typed.1 counted)

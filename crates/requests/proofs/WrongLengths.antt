@@ -1,4 +1,4 @@
--- A list of another length than a form has is no such form.
+-- A list whose length isn't that of a form doesn't have that form.
 use Rattle.std.proofs.Common.{◌≡◌, ◌≢◌, List, [], ◌∷◌, length, Err, refl}
 use Rattle.std.proofs.lemmas.Bool.{ltb-true, ltb-false}
 use Rattle.ids.specs.declared.refusal.Refusal.TheVariants.{BadLine}
@@ -38,7 +38,7 @@ pub applied_of-wrong_length : (xs : List Value) → length xs ≢ 0 → applied_
 applied_of-wrong_length [] h = absurd (h refl)
 applied_of-wrong_length (a ∷ xs) h = refl
 
--- each with what a pattern of a slice tests of its length
+-- each with what a slice pattern tests of its length
 pub ruleset command_lengths = (ltb-true, ltb-false, writing_of-wrong_length, delete_of-wrong_length)
 
 pub ruleset question_lengths = (ltb-true, ltb-false, asking_of-wrong_length, missing_of-wrong_length, applied_of-wrong_length)

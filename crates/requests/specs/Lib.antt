@@ -5,7 +5,7 @@ pub mod Questions
 pub mod Written
 pub mod Readings
 pub mod Glances
--- Handed on from the crates below, for users of this one.
+-- Re-exported from the crates below, for users of this one.
 pub use Rattle.document.specs.operation
 pub use Rattle.document.specs as document
 pub use Rattle.wire.specs as wire

@@ -1,4 +1,4 @@
--- What is replied to questions and to what was submitted, as JSON.
+-- The replies to questions and to what was submitted, as JSON.
 use Rattle.std.specs.Prelude.{ℕ, List, [], ◌∷◌, ◌++◌, codes, decimal, map, reverse}
 use Rattle.ids.specs.Refusals.{number_of}
 use Rattle.ids.specs.declared.id.OpId.{OpId}
@@ -18,7 +18,7 @@ refusal_name why = codes "E" ++ decimal (number_of why)
 
 -- ---- readings
 
--- as what something stands
+-- the word of a tag
 abbrev pub tag_name : Tag → List ℕ
 tag_name AsMap = codes "map"
 tag_name AsList = codes "list"
@@ -32,7 +32,7 @@ row_json v = array (items_of (id_json v.0 ∷ scalar_json v.1 ∷ []))
 abbrev pub conflict_json : OpId × Tag → Data
 conflict_json x = array (items_of (id_json x.0 ∷ string (tag_name x.1) ∷ []))
 
--- what a token that has seen this many entries is answered
+-- the reply to a question, for a token that has seen this many entries
 abbrev pub answer_json : ℕ → Answer → Data
 answer_json seen (ValuesAre vs) = phrase (codes "reading") (count seen ∷ array (items_of (map row_json vs)) ∷ [])
 answer_json seen (KeysAre names) = phrase (codes "reading") (count seen ∷ array (items_of (map string names)) ∷ [])
@@ -41,7 +41,7 @@ answer_json seen (ConflictsAre xs) = phrase (codes "reading") (count seen ∷ ar
 answer_json seen (VectorIs v) = phrase (codes "reading") (count seen ∷ vector_json v ∷ [])
 answer_json seen (Refused why) = phrase (codes "refused") (string (refusal_name why) ∷ count seen ∷ [])
 
--- missing operations are printed with the oldest first
+-- the same; missing operations are written the oldest first
 abbrev pub reading_json : ℕ → Reading → Data
 reading_json seen (Answered a) = answer_json seen a
 reading_json seen (MissingAre ss) = phrase (codes "reading") (count seen ∷ array (items_of (map operation_json (reverse ss))) ∷ [])

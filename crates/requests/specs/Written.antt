@@ -1,4 +1,4 @@
--- How a command and a question are written, as JSON, and which commands can be.
+-- How a command and a question are written as JSON, and which commands can be.
 use Rattle.std.specs.Prelude.{◌≤◌, ◌<◌, ◌^◌, ⊤, IsTrue, List, [], ◌∷◌, codes, length, map}
 use Rattle.semantics.specs.Limits.{most_key_bytes}
 use Rattle.semantics.specs.Operations.{Mutation, Assign, Insert, Delete}
@@ -59,7 +59,7 @@ pub record IsSentCommand (c : Command) : Type 0 where
   pub expression : AreSentSteps c.expression
   pub mutation : IsSentMutation c.mutation
 
--- what the types of the program keep of a step
+-- what the program's types guarantee of a step
 abbrev pub IsTypedStep : Step → Type 0
 IsTypedStep (Get key) = length key ≤ most_key_bytes
 IsTypedStep (Idx i) = i < 2 ^ 64
@@ -70,7 +70,7 @@ abbrev pub AreTypedSteps : List Step → Type 0
 AreTypedSteps [] = ⊤
 AreTypedSteps (s ∷ ss) = IsTypedStep s × AreTypedSteps ss
 
--- what a caller answers for: each id has one of the counters of the wire
+-- what a caller answers for: the counter of each id is within the limits of the wire
 abbrev pub HasCounters : List Step → Type 0
 HasCounters [] = ⊤
 HasCounters (ById a ∷ ss) = IsTrue (is_counter a.counter) × HasCounters ss

@@ -1,4 +1,4 @@
-//! What was made of a command, or the code of why nothing was, written as JSON.
+//! The outcome of a command, written as JSON: what was made of it, or the code of why nothing was.
 
 ghost use Rattle.std.specs.Prelude.{OnOk};
 ghost use Rattle.semantics.specs.LegalAnswer.{Made, RefusedAt};
@@ -44,7 +44,7 @@ pub fn put_refused(
     out.end_array()
 }
 
-/// Writes a refusal, as `E22`.
+/// Writes a refusal as its code, such as `E22`.
 ///
 /// # Errors
 /// `AllocError` if allocation fails.

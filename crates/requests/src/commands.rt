@@ -27,10 +27,10 @@ use serde_json::Value;
 use std::alloc::{AllocError, Global};
 use wire::{phrase_in, put_value};
 
-/// The command that a JSON value is: `["assign",EXPRESSION,VALUE]`, `["insert",EXPRESSION,VALUE]` or `["delete",EXPRESSION]`.
+/// The command of a JSON value: `["assign",EXPRESSION,VALUE]`, `["insert",EXPRESSION,VALUE]` or `["delete",EXPRESSION]`.
 ///
 /// # Errors
-/// `BadLine` if it has another form, `KeyTooLong`, `TextTooLong` or `NotWhole` of the first part that isn't within its limit, or
+/// `BadLine` if it has another form, `KeyTooLong`, `TextTooLong` or `NotWhole` for the first part that isn't within its limit, or
 /// `NoMemory` if allocation fails.
 pub fn command_in(alloc: Global, edition: Edition, value: &Value) -> Result<Command, Refusal>
     ensures { IsRead command_of result (command_form edition (view value.now)) }
@@ -50,7 +50,7 @@ pub fn command_in(alloc: Global, edition: Edition, value: &Value) -> Result<Comm
     }
 }
 
-/// An expression, and a value that is written there.
+/// An expression, and the value that is written there.
 fn writing_in(alloc: Global, edition: Edition, parts: &[Value]) -> Result<(Expr, Val), Refusal>
     ensures { (how : TheValue → TheMutation)
         → IsRead (λ p. record { expression = p.0; mutation = how (value_of p.1) }) result (writing_of edition how (items_view parts.now)) }
@@ -112,7 +112,7 @@ fn put_writing(
 }
 
 /// The JSON of a command whose steps and value are within their limits is read as that command, in the second edition. So is that of each
-/// command of the program whose ids have the counters of the wire.
+/// command of the program if its ids have counters within the limits of the wire.
 pub fn commands_are_read_back()
     ensures back { (c : TheCommand) → IsSentCommand c → command_form Second (command_json c) ≡ Ok c }
     ensures sent { (c : TheCommand) → AreTypedSteps c.expression → HasCounters c.expression → IsSentMutation c.mutation → IsSentCommand c }

@@ -1,11 +1,11 @@
-//! Which forms the lines of a script may have.
+//! The forms that the lines of a script may have.
 
-/// Which forms the lines of a script may have, as its first word says. A form that came later stands in no script of the first word, so
-/// such a script goes on meaning what it meant.
+/// The forms that the lines of a script may have, as its first word says. A form that was added later isn't allowed in a script with the
+/// first word, so such a script keeps its meaning.
 #[derive(Clone, Copy, Debug, PartialEq, Eq)]
 pub enum Edition {
-    /// Of the word `world`.
+    /// For the word `world`.
     First,
-    /// Of the word `world2`, with steps to items by their ids.
+    /// For the word `world2`, with steps to items by their ids.
     Second,
 }

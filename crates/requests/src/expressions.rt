@@ -17,10 +17,10 @@ use serde_json::Value;
 use std::alloc::{AllocError, Global};
 use wire::{id_in, list_in, number_in, put_id};
 
-/// An expression: a list of keys, and of items by their indices in lists or by their ids.
+/// An expression: a list of keys of maps, and of items of lists, by their indices or their ids.
 ///
 /// # Errors
-/// `BadLine` if it has another form, `KeyTooLong` of the first key of more than 256 bytes, or `NoMemory` if allocation fails.
+/// `BadLine` if it has another form, `KeyTooLong` for the first key of more than 256 bytes, or `NoMemory` if allocation fails.
 pub fn expression_in(alloc: Global, edition: Edition, value: &Value) -> Result<Expr, Refusal>
     ensures { IsOrNoMemory result (expression_form edition (view value.now)) }
 {

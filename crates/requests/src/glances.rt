@@ -1,4 +1,4 @@
-//! A glance as JSON for people.
+//! A glance as human-readable JSON.
 #![tactic(auto, using(crate::proofs::NoFloats::no_floats))]
 
 ghost use Rattle.std.specs.Prelude.{◌≡◌, ◌<◌, ◌≤◌, IfOk, OnOk, false, length};
@@ -10,19 +10,20 @@ use document::{Glance, Hop, Key, Row};
 use serde_json::{Map, Value, json, push, put};
 use std::alloc::{AllocError, Global};
 
-/// What stands beneath an element, as JSON.
+/// The content beneath an element, as JSON.
 #[derive(Drop)]
 struct Beneath {
     fields: Map<String, Value>,
     items: Vec<Value>,
 }
 
-/// A glance as JSON for people: a map is an object, a list an array, a value itself, and what nothing stands at `null`.
+/// A glance as human-readable JSON: a map is an object, a list is an array, a value is itself, and an element at which nothing is present
+/// is `null`.
 ///
-/// What JSON has no word for stands under the key `?`. An object in which more may stand has `"?":"cut"`, an array then ends in
-/// `{"?":"cut"}`. An element at which several things stand at once, since replicas wrote apart, is an object with `"?":"conflict"`, and of
-/// `"values"`, `"map"` and `"list"` those that stand there. A key of the document that begins with `?` has one more `?`. Which of
-/// several replicas wrote, and the ids of items, aren't in it. In time and memory in proportion to the glance.
+/// What JSON has no word for is under the key `?`. An object that may have been cut short has `"?":"cut"`; such an array ends in
+/// `{"?":"cut"}`. An element at which several things are present at once, because of concurrent writes, is an object with `"?":"conflict"`
+/// and those of `"values"`, `"map"` and `"list"` that are present. A key of the document that begins with `?` gets one more `?`. Which of
+/// several replicas wrote, and the ids of items, aren't in it. Takes time and memory in proportion to the glance.
 ///
 /// # Errors
 /// `AllocError` if allocation fails.
@@ -36,7 +37,7 @@ pub fn glance_json(alloc: Global, glance: &Glance) -> Result<Value, AllocError>
     Ok(value)
 }
 
-/// The element of the row at a position with all that stands beneath it, and the position of the first row that doesn't.
+/// The element of the row at a position with everything beneath it, and the position of the first row that isn't beneath it.
 fn element_json(alloc: Global, glance: &Glance, at: usize) -> Result<(Value, usize), AllocError>
     requires { at < length glance.now.rows.items }
     ensures next { IfOk result (λ r. (at < r.1) × (r.1 ≤ length glance.now.rows.items)) }
@@ -61,7 +62,7 @@ fn element_json(alloc: Global, glance: &Glance, at: usize) -> Result<(Value, usi
 }
 
 impl Beneath {
-    /// Puts an element where its row says that it stands.
+    /// Adds the value of an element, as its row says: under its key, or as the next item.
     fn add(&mut self, alloc: Global, row: &Row, value: Value) -> Result<(), AllocError>
         requires value { has_float (view value) ≡ false }
         requires beneath { HasNoFloat self.old }
@@ -80,7 +81,7 @@ impl Beneath {
         }
     }
 
-    /// Marks that more may stand in what is open: the fields come before the items, so where there are items the fields are all there.
+    /// Marks that more may be in what is still open. Fields come before items, so if there are items then all fields are there.
     fn mark_cut(&mut self, alloc: Global, row: &Row) -> Result<(), AllocError>
         requires { HasNoFloat self.old }
         ensures { OnOk result (HasNoFloat self.new) }
@@ -95,14 +96,14 @@ impl Beneath {
     }
 }
 
-/// What stands for elements that aren't shown.
+/// The mark for elements that aren't shown.
 fn cut_mark(alloc: Global) -> Result<Value, AllocError>
     ensures { IfOk result (λ v. has_float (view v) ≡ false) }
 {
     json!(in alloc; {"?": "cut"})
 }
 
-/// The name under which a key stands.
+/// The name of a key in the object.
 fn name_of(alloc: Global, key: &Key) -> Result<String, AllocError> {
     let mut name = String::new(alloc);
     if key.as_str().starts_with('?') {
@@ -112,7 +113,7 @@ fn name_of(alloc: Global, key: &Key) -> Result<String, AllocError> {
     Ok(name)
 }
 
-/// What an element shows: the one thing that stands there, or the conflict of several.
+/// What an element shows: the one thing that is present there, or the conflict of several.
 fn shown(alloc: Global, row: &Row, beneath: Beneath) -> Result<Value, AllocError>
     requires { HasNoFloat beneath }
     ensures { IfOk result (λ v. has_float (view v) ≡ false) }
@@ -136,7 +137,7 @@ fn shown(alloc: Global, row: &Row, beneath: Beneath) -> Result<Value, AllocError
     }
 }
 
-/// Puts one of the things that stand in conflict, if it stands there.
+/// Puts one side of a conflict, if it is present.
 fn put_standing(
     all: &mut Map<String, Value>,
     alloc: Global,

@@ -1,4 +1,4 @@
-//! What clients ask and command, as JSON, and what they are replied; what they see at a glance, as JSON for people.
+//! Clients' questions and commands as JSON, and the replies to them; glances as human-readable JSON.
 #![tactic(auto)]
 
 mod codes;
@@ -19,7 +19,7 @@ pub use phrases::{put_one, put_two, put_word};
 pub use questions::{question_in, questions_are_written_alike};
 pub use readings::put_reading;
 
-// Handed on from the crates below, for users of this one.
+// Re-exported from the crates below, for users of this one.
 pub use document::{Command, Entry, Expr, Glance, Op, Question, Reading, Shared};
 pub use wire::{
     BundleReader, BundleWriter, LINE_END, Lines, id_in, json_of, number_in, operation_in,

@@ -1,4 +1,4 @@
-//! A word with numbers or without, written as JSON.
+//! A word with or without numbers, written as JSON.
 
 ghost use Rattle.std.specs.Prelude.{◌∷◌, [], OnOk};
 ghost use Rattle.wire.specs.Operations.{phrase};

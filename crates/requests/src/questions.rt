@@ -19,10 +19,10 @@ use serde_json::Value;
 use std::alloc::Global;
 use wire::{phrase_in, vector_in};
 
-/// The question that a JSON value is: a word, and for most the expression that it asks about.
+/// The question of a JSON value: a word, and for most the expression that it asks about.
 ///
 /// # Errors
-/// `BadLine` if it has another form, `KeyTooLong` of the first key of more than 256 bytes, or `NoMemory` if allocation fails.
+/// `BadLine` if it has another form, `KeyTooLong` for the first key of more than 256 bytes, or `NoMemory` if allocation fails.
 pub fn question_in(alloc: Global, edition: Edition, value: &Value) -> Result<Question, Refusal>
     ensures { IsRead asked_of result (question_form edition (view value.now)) }
 {

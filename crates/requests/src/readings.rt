@@ -18,7 +18,7 @@ use json::Writer;
 use std::alloc::AllocError;
 use wire::{put_id, put_op, put_scalar, put_vector};
 
-/// Writes the reply to a question of a token that has seen this many entries.
+/// Writes the reply to a question, for a token that has seen this many entries.
 ///
 /// # Errors
 /// `AllocError` if allocation fails.
@@ -32,7 +32,7 @@ pub fn put_reading(out: &mut Writer, seen: u64, reading: &Reading) -> Result<(),
     out.end_array()
 }
 
-/// Writes what stands in the reply behind the number of entries.
+/// Writes the part of the reply after the number of entries.
 fn put_answer(out: &mut Writer, reading: &Reading) -> Result<(), AllocError>
     ensures { OnOk result ((answer : Data)
         × ((seen : ℕ) → reading_json seen (said_by reading.now) ≡ phrase (codes "reading") (count seen ∷ answer ∷ []))

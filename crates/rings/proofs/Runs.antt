@@ -8,7 +8,7 @@ use Rattle.rings.specs.Rings.{straight, AreRings, IsSlot}
 use Rattle.rings.proofs.Straight.{IsWrapped, length-straight}
 use Rattle.rings.proofs.Slots.{meets_slot}
 
--- so many items from a position on lie in the slots from this one on
+-- `count` items from a position on lie in the slots from this one on
 pub record IsRun {X : Type 0} (starts : List ℕ) (xs : List X) (position slot count : ℕ) : Type 0 where
   pub slots : slot + count ≤ length xs
   pub positions : position + count ≤ length xs

@@ -1,4 +1,4 @@
--- Places and their slots.
+-- Positions and their slots.
 use Rattle.std.proofs.Common.{◌≡◌, ℕ, ◌+◌, ◌*◌, ◌/◌, ◌%◌, ◌<◌, ◌≤◌, ◌⊎◌, inl, inr, List, [], ◌∷◌, ◌++◌, length, length-append, get_or, set}
 use Rattle.std.proofs.Common.{sym, ap, ◌∙◌, arith}
 use Rattle.std.specs.List.{All}
@@ -8,7 +8,7 @@ use Rattle.rings.specs.Rings.{straight, AreRings, IsClosed, IsSlot}
 use Rattle.rings.proofs.Straight.{in_ring, in_ring_is, IsWrapped, straight-get, straight-set, straight-get_past, straight-set_past}
 use Rattle.rings.proofs.Straight.{straight_one_more}
 
--- a sum that goes round
+-- a sum that wraps around
 pub goes_round : (s o : ℕ) → s < 2048 → o < 2048 → ((s + o) % 2048 < 2048) × IsWrapped 2048 (s + o) ((s + o) % 2048)
 goes_round s o h k = by_cases (cases_lt (s + o) 2048)
   where

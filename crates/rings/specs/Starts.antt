@@ -7,6 +7,6 @@ use Rattle.rings.specs.declared.starts.Starts.{Starts}
 abbrev pub starts_of : Starts → List ℕ
 starts_of s = unwrap_or (option_map (λ b. b.value.items) s.starts) []
 
--- how many starts fit without memory
+-- how many starts fit without allocating
 abbrev pub capacity_of : Starts → ℕ
 capacity_of s = unwrap_or (option_map (λ b. vec_capacity b.value) s.starts) 0

@@ -1,4 +1,4 @@
-//! Rings that begin at their first slots, and what is taken out of them then.
+//! Turning rings so that they begin at their first slots, and removing items from such rings.
 
 ghost use Rattle.std.specs.Prelude.{◌≡◌, ◌≤◌, ◌<◌, ◌+◌, ◌*◌, length, Some, slice_get, slice_set, take, IsTrue, vec_len, vec_capacity};
 ghost use Rattle.std.specs.Fn.{CalledAt};
@@ -40,7 +40,7 @@ pub(crate) fn make_all_contiguous<T>(slots: &mut [T], starts: &mut Starts)
     }
 }
 
-/// Turns the rings, which begin at these slots, so that they begin at their first ones.
+/// Turns the rings, which begin at these slots, so that they begin at their first slots.
 fn make_rings_contiguous<T>(slots: &mut [T], starts: &mut [usize])
     requires { AreRings 2048 starts.old (length slots.old) }
     ensures same { straight 2048 starts.new slots.new ≡ straight 2048 starts.old slots.old }
@@ -54,7 +54,7 @@ fn make_rings_contiguous<T>(slots: &mut [T], starts: &mut [usize])
     }
 }
 
-/// Keeps this many items where all rings begin at their first slots.
+/// Keeps the first `count` items of a list whose rings all begin at their first slots.
 pub(crate) fn truncate_in<T: Drop>(slots: &mut Vec<T>, starts: &mut Starts, count: usize)
     requires rings { AreRings 2048 (starts_of starts.old) (length slots.old.items) }
     requires straight { IsTrue (are_zero (starts_of starts.old)) }
@@ -69,7 +69,7 @@ pub(crate) fn truncate_in<T: Drop>(slots: &mut Vec<T>, starts: &mut Starts, coun
     starts.truncate(count / RING);
 }
 
-/// Keeps the items for which `keep` returns true, where all rings begin at their first slots.
+/// Keeps the items for which `keep` returns true, in a list whose rings all begin at their first slots.
 pub(crate) fn retain_in<T: Drop, F: FnMut(&T) -> bool>(
     slots: &mut Vec<T>,
     starts: &mut Starts,
@@ -89,7 +89,7 @@ pub(crate) fn retain_in<T: Drop, F: FnMut(&T) -> bool>(
     starts.truncate(slots.len() / RING);
 }
 
-/// Removes the item at a position where all rings begin at their first slots, and returns it.
+/// Removes the item at a position of a list whose rings all begin at their first slots, and returns it.
 pub(crate) fn remove_in<T>(slots: &mut Vec<T>, starts: &mut Starts, position: usize) -> T
     requires rings { AreRings 2048 (starts_of starts.old) (length slots.old.items) }
     requires straight { IsTrue (are_zero (starts_of starts.old)) }

@@ -1,4 +1,4 @@
-//! A list that is read at any position in constant time, and that takes an item at any position at little cost, also among a million.
+//! A list with constant-time reads at any position, and cheap inserts at any position, even among a million items.
 #![tactic(auto)]
 
 mod contiguous;

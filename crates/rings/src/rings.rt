@@ -1,4 +1,4 @@
-//! A list whose items lie in rings, and the moves that keep them there.
+//! A list whose items are in rings, and the moves that keep them there.
 
 ghost use Rattle.std.specs.Prelude.{◌≡◌, ◌<◌, ◌≤◌, ◌+◌, ◌*◌, ◌/◌, ◌++◌, ◌∷◌, [], length, Some, slice_get, slice_index_or, slice_set, take};
 ghost use Rattle.std.specs.Prelude.{ℕ, IsTrue, List, OnOk, vec_len, vec_capacity};
@@ -17,12 +17,12 @@ use std::mem::{replace, swap};
 /// How many slots a ring has.
 pub(crate) const RING: usize = 2_048;
 
-/// A list that stays fast at a million items: one is read at any position in constant time, and one that goes in moves at most
-/// half of its ring, one item of each later ring, and what stands behind the rings.
+/// A list that stays fast at a million items: any position is read in constant time, and an insert moves at most half of its ring, one
+/// item of each later ring, and the items behind the rings.
 ///
-/// All items stand in one vector: first the full rings of 2,048 slots, each of which begins at one of its slots and goes round, and
-/// then fewer than 2,048 items in their order. So a list below 2,048 items is a vector. Contracts see the items, how many more fit
-/// without memory, and whether all rings begin at their first slots.
+/// All items are in one vector: first the full rings of 2,048 slots, each of which begins at one of its slots and wraps around, and then
+/// fewer than 2,048 items in their order. So a list below 2,048 items is a vector. Contracts see the items, how many more fit without an
+/// allocation, and whether all rings begin at their first slots.
 #[derive(Debug, Drop)]
 pub struct Rings<T> {
     slots: Vec<T>,
@@ -56,9 +56,10 @@ impl<T> Rings<T> {
         }
     }
 
-    /// Returns how many items there are.
+    /// Returns how many items there are: fewer than 2^63, as in any vector.
     pub fn len(&self) -> usize
-        ensures { result ≡ length self.now.items }
+        ensures length { result ≡ length self.now.items }
+        ensures few { result < 9_223_372_036_854_775_808 }
     {
         self.slots.len()
     }
@@ -71,8 +72,8 @@ impl<T> Rings<T> {
         item(&self.slots, self.starts.as_slice(), position)
     }
 
-    /// Returns the items from this position on that lie next to each other, in constant time: at least one, and all that stand
-    /// behind the rings. A ring is one or two such runs.
+    /// Returns the items from this position on that are adjacent in memory, in constant time: at least one, and behind the rings all of
+    /// them. A ring is one or two such runs.
     pub fn run(&self, position: usize) -> &[T]
         requires { position < length self.now.items }
         ensures any { 0 < length result.now }
@@ -82,7 +83,7 @@ impl<T> Rings<T> {
         run_in(&self.slots, self.starts.as_slice(), position)
     }
 
-    /// Puts the value where another item stands, in constant time, and returns that item.
+    /// Puts the value in place of an item, in constant time, and returns that item.
     pub fn replace(&mut self, position: usize, value: T) -> T
         requires { position < length self.old.items }
         ensures items { self.new.items ≡ slice_set self.old.items position value }
@@ -138,8 +139,8 @@ impl<T> Rings<T> {
         &self.slots
     }
 
-    /// Removes the item at this position and returns it; those behind it come one earlier. Allocates nothing. All rings are
-    /// contiguous first, and each item behind it moves, with a single memmove.
+    /// Removes the item at this position and returns it; those behind it shift one earlier. Allocates nothing. Makes all rings contiguous
+    /// first, and shifts the items behind it with a single memmove.
     pub fn remove(&mut self, position: usize) -> T
         requires { position < length self.old.items }
         ensures items { self.new.items ≡ remove self.old.items position }
@@ -152,7 +153,7 @@ impl<T> Rings<T> {
 }
 
 impl<T: Drop> Rings<T> {
-    /// Keeps this many items and drops those behind them. Allocates nothing; all rings are contiguous first.
+    /// Keeps this many items and drops those behind them. Allocates nothing; makes all rings contiguous first.
     pub fn truncate(&mut self, count: usize)
         ensures items { self.new.items ≡ take count self.old.items }
         ensures room { self.old.room ≤ self.new.room }
@@ -161,8 +162,8 @@ impl<T: Drop> Rings<T> {
         truncate_in(&mut self.slots, &mut self.starts, count);
     }
 
-    /// Keeps the items for which `keep` returns true, in their order, and drops the others. Allocates nothing; all rings are
-    /// contiguous first. Calls `keep` once for each item, and shifts those kept left past the removed ones, as `Vec::retain`.
+    /// Keeps the items for which `keep` returns true, in their order, and drops the others. Allocates nothing; makes all rings contiguous
+    /// first. Calls `keep` once for each item, and shifts those kept left past the removed ones, as `Vec::retain`.
     pub fn retain<F: FnMut(&T) -> bool>(&mut self, keep: F)
         requires { F.IsAlwaysCallable keep }
         ensures kept { IsFiltered (CalledAt F.FnMut) keep self.old.items self.new.items }
@@ -172,9 +173,9 @@ impl<T: Drop> Rings<T> {
         retain_in(&mut self.slots, &mut self.starts, keep);
     }
 
-    /// Puts an item at this position; those from there on come one later. Allocates nothing. In its ring it moves those before it at
-    /// once, or those from there on, whichever are fewer, so at most half of the ring. It moves one item of each later ring, and
-    /// those behind the rings at once.
+    /// Inserts an item at this position; those from there on shift one later. Allocates nothing. In its ring it shifts those before it, or
+    /// those from there on, whichever are fewer, so at most half of the ring. It moves one item of each later ring, and shifts those behind
+    /// the rings.
     pub fn insert(&mut self, position: usize, value: T)
         requires within { position ≤ length self.old.items }
         requires room { 0 < self.old.room }
@@ -206,8 +207,8 @@ fn item<'a, T>(slots: &'a [T], starts: &[usize], position: usize) -> &'a T
     &slots[slot_of(starts, position)]
 }
 
-/// Returns the items from a position on that lie next to each other: those of a ring go on to its last slot, or to the one before it
-/// begins.
+/// Returns the items from a position on that are adjacent in memory: those of a ring end at its last slot, or at the one before its
+/// beginning.
 fn run_in<'a, T>(slots: &'a [T], starts: &[usize], position: usize) -> &'a [T]
     requires rings { AreRings 2048 starts.now (length slots.now) }
     requires within { position < length slots.now }
@@ -224,7 +225,7 @@ fn run_in<'a, T>(slots: &'a [T], starts: &[usize], position: usize) -> &'a [T]
     &slots[first..first + count]
 }
 
-/// Returns how many items of a ring lie next to each other from a place on that lies at this slot of the ring.
+/// Returns how many items of a ring are adjacent in memory, from the place on that is at this slot of the ring.
 fn rest_of_ring(place: usize, slot: usize) -> usize
     requires place { place < 2048 }
     requires slot { slot < 2048 }
@@ -239,7 +240,7 @@ fn rest_of_ring(place: usize, slot: usize) -> usize
     }
 }
 
-/// Puts the value where another item stands, and returns that item.
+/// Puts the value in place of an item, and returns that item.
 fn write<T>(slots: &mut [T], starts: &[usize], position: usize, value: T) -> T
     requires rings { AreRings 2048 starts.now (length slots.old) }
     requires within { position < length slots.old }
@@ -268,8 +269,8 @@ fn turn<T>(slots: &mut [T], starts: &mut [usize], ring: usize, value: T) -> T
     replace(&mut slots[ring * RING + before], value)
 }
 
-/// Moves each item one slot on and puts the value into the first, with a single memmove. Returns the item that falls out at the
-/// end: the value, where there are no slots.
+/// Moves each item one slot on and puts the value into the first, with a single memmove. Returns the item that falls out at the end, which
+/// is the value if there are no slots.
 fn push_front<T>(items: &mut [T], value: T) -> T
     ensures { items.new ++ result ∷ [] ≡ value ∷ items.old }
 {
@@ -280,8 +281,8 @@ fn push_front<T>(items: &mut [T], value: T) -> T
     replace(&mut items[0], value)
 }
 
-/// Puts an item at a position of a ring, with a single memmove, or two where those behind it go round. Returns the ring's last
-/// item, which falls out.
+/// Inserts an item at a position of a ring, with a single memmove, or two if those behind it wrap around. Returns the ring's last item,
+/// which falls out.
 fn push_into<T>(ring: &mut [T], start: usize, position: usize, value: T) -> T
     requires start { start ≤ length ring.old }
     requires position { position ≤ length ring.old }
@@ -297,8 +298,7 @@ fn push_into<T>(ring: &mut [T], start: usize, position: usize, value: T) -> T
     push_front(&mut back[position - count..], value)
 }
 
-/// Lets a ring's first item sink to a position, so that those on its way come one earlier, with a single memmove, or two where
-/// they go round.
+/// Moves a ring's first item to a position, so that those on its way shift one earlier, with a single memmove, or two if they wrap around.
 fn sink<T>(ring: &mut [T], start: usize, position: usize)
     requires start { start < length ring.old }
     requires position { position < length ring.old }
@@ -320,8 +320,8 @@ fn sink<T>(ring: &mut [T], start: usize, position: usize)
     swap(&mut front[count - 1], &mut back[behind]);
 }
 
-/// Puts an item at a position that lies in a ring: in its first half by moving those before it, and else by moving those from
-/// there on, so at most half of the ring. Returns that ring's last item, which falls out.
+/// Inserts an item at a position in a ring: in its first half by shifting those before it, and else by shifting those from there on, so
+/// at most half of the ring. Returns that ring's last item, which falls out.
 fn push_at<T>(slots: &mut [T], starts: &mut [usize], position: usize, value: T) -> T
     requires rings { AreRings 2048 starts.old (length slots.old) }
     requires position { position < length starts.old * 2048 }
@@ -342,8 +342,7 @@ fn push_at<T>(slots: &mut [T], starts: &mut [usize], position: usize, value: T) 
     push_into(&mut slots[first..first + RING], starts[ring], place, value)
 }
 
-/// Puts an item at a position that lies in a ring. Each ring from there on passes its last item on to the next; returns that of
-/// the last ring.
+/// Inserts an item at a position in a ring. Each ring from there on passes its last item to the next; returns that of the last ring.
 fn carry<T>(slots: &mut [T], starts: &mut [usize], position: usize, value: T) -> T
     requires rings { AreRings 2048 starts.old (length slots.old) }
     requires position { position < length starts.old * 2048 }
@@ -360,7 +359,7 @@ fn carry<T>(slots: &mut [T], starts: &mut [usize], position: usize, value: T) ->
     carried
 }
 
-/// Lets the rings from a position on take the value, and returns which item is then left and where it goes behind the rings.
+/// Inserts the value into the rings from a position on, and returns which item is then left and where it goes behind the rings.
 fn make_way<T>(slots: &mut [T], starts: &mut Starts, position: usize, value: T) -> (usize, T)
     requires rings { AreRings 2048 (starts_of starts.old) (length slots.old) }
     requires position { position ≤ length slots.old }
@@ -433,7 +432,7 @@ fn insert_in<T: Drop>(slots: &mut Vec<T>, starts: &mut Starts, position: usize, 
 }
 
 /// Inserts an item into a vector that has room for it, with a single memmove. `Vec::insert` moves sixteen bytes at a time, which shows
-/// from some hundred items on. Allocates nothing.
+/// from a few hundred items on. Allocates nothing.
 pub fn insert_reserved<T: Drop>(items: &mut Vec<T>, at: usize, item: T)
     requires within { at ≤ length items.old.items }
     requires room { vec_len items.old < vec_capacity items.old }

@@ -5,17 +5,17 @@ ghost use Rattle.rings.specs.Starts.{capacity_of, starts_of};
 
 use std::alloc::{AllocError, Global};
 
-/// Of each ring, the slot in which it begins.
+/// For each ring, the slot at which it begins.
 ///
 /// Without rings it allocates nothing, and is smaller than an empty vector, so that many small lists cost little.
 #[derive(Debug, Drop)]
 pub struct Starts {
-    /// `None` as long as room for a first start wasn't asked for.
+    /// `None` until room for a first start is asked for.
     pub starts: Option<Box<Vec<usize>>>,
 }
 
 impl Starts {
-    /// Returns those of no ring. Allocates nothing.
+    /// Returns the starts of no rings. Allocates nothing.
     pub fn new() -> Starts
         ensures starts { starts_of result ≡ [] }
         ensures capacity { capacity_of result ≡ 0 }
@@ -63,7 +63,7 @@ impl Starts {
         }
     }
 
-    /// Keeps the starts of this many rings.
+    /// Keeps the starts of the first `count` rings.
     pub fn truncate(&mut self, count: usize)
         ensures starts { starts_of self.new ≡ take count (starts_of self.old) }
         ensures capacity { capacity_of self.new ≡ capacity_of self.old }

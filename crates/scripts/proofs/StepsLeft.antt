@@ -1,4 +1,4 @@
--- The steps that are left of a script, line by line.
+-- The remaining steps of a script, line by line.
 use Rattle.std.proofs.Common.{◌≡◌, ◌≢◌, ℕ, ◌+◌, List, [], ◌∷◌, ◌++◌, Result, Ok, Err, refl, append_assoc}
 use Rattle.ids.specs.Configurations.{Configuration}
 use Rattle.ids.specs.declared.refusal.Refusal.{Refusal}
@@ -28,14 +28,14 @@ pub after-step : (edition : Edition) (engines : List Configuration) (taken : ℕ
 after-step edition engines taken text line rest steps s first e =
     rw (cut-first_line text line rest first, e) (after-one steps s (steps_left edition engines (taken + 1) rest))
 
--- a line that is none
+-- a line that isn't
 pub after-bad : (edition : Edition) (engines : List Configuration) (taken : ℕ) (text line rest : List ℕ) (steps : List WorldStep)
     (why : Refusal)
     → IsFirstLine text line rest → step_line edition engines line ≡ Err why
     → after steps (steps_left edition engines taken text) ≡ Err (taken + 1, why)
 after-bad edition engines taken text line rest steps why first e = rw (cut-first_line text line rest first, e) refl
 
--- bytes that no line feed ends
+-- bytes without a line feed at the end
 pub after-cut : (edition : Edition) (engines : List Configuration) (taken : ℕ) (text : List ℕ) (steps : List WorldStep)
     → HasNoEnd text → text ≢ [] → after steps (steps_left edition engines taken text) ≡ Err (taken + 1, BadLine)
 after-cut edition engines taken [] steps h some = absurd (some refl)
@@ -46,7 +46,7 @@ pub script_form-engines : (text line rest : List ℕ) (gs : List Configuration) 
     → script_form text ≡ unless_bad (λ ss. Ok (gs, ss)) (steps_left (edition_of line) gs 1 rest)
 script_form-engines text line rest gs first e = rw (cut-first_line text line rest first, e) refl
 
--- one whose first line is none
+-- one whose first line isn't
 pub script_form-bad : (text line rest : List ℕ) (why : Refusal) → IsFirstLine text line rest → engines_line line ≡ Err why
     → script_form text ≡ Err (1, why)
 script_form-bad text line rest why first e = rw (cut-first_line text line rest first, e) refl

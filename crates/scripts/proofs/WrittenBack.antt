@@ -1,4 +1,4 @@
--- A step that is read and holds a command or a question is the JSON that writing it gives.
+-- What a step with a command or a question is read from is the JSON that writing it gives.
 use Rattle.std.proofs.Common.{◌≡◌, ℕ, Bool, true, false, cond, List, [], Result, Ok}
 use Rattle.std.proofs.Common.{refl, sym, ap, ◌∙◌, subst}
 use Rattle.std.specs.Prelude.{⊤, codes}
@@ -27,7 +27,7 @@ use Rattle.requests.proofs.WrittenBack.{command_in, question_in, worded}
 module _ (ed : Edition) where
   -- ---- steps
 
-  -- what the JSON of a step is, where it holds a command or a question
+  -- the JSON of a step, if it has a command or a question
   abbrev IsWritten : Data → ℕ → WorldAct → Type 0
   IsWritten d e (Push c k) = d ≡ push_json e c k
   IsWritten d e (Ask t q) = d ≡ ask_json e t q

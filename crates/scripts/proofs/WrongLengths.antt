@@ -1,4 +1,4 @@
--- A list of another length than a form has is no such form.
+-- A list whose length isn't that of a form doesn't have that form.
 use Rattle.std.proofs.Common.{◌≡◌, ◌≢◌, ℕ, Some, List, [], ◌∷◌, length, Err, refl}
 use Rattle.std.proofs.lemmas.Bool.{ltb-true, ltb-false}
 use Rattle.ids.specs.declared.refusal.Refusal.TheVariants.{BadLine}
@@ -72,7 +72,7 @@ four_numbers-wrong_length (a ∷ b ∷ d ∷ []) h = refl
 four_numbers-wrong_length (a ∷ b ∷ d ∷ e ∷ []) h = absurd (h refl)
 four_numbers-wrong_length (a ∷ b ∷ d ∷ e ∷ f ∷ xs) h = refl
 
--- each with what a pattern of a slice tests of its length
+-- each with what a slice pattern tests of its length
 pub ruleset engine_lengths = (ltb-true, ltb-false, engine_of-wrong_length, only_engines-wrong_length)
 
 pub ruleset step_lengths = (ltb-true, ltb-false, push_of-wrong_length, ask_of-wrong_length, line_of-wrong_length)

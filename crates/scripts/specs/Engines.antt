@@ -1,4 +1,4 @@
--- What the first line of a script is, as the engines of a world.
+-- The first line of a script, as the engines of a world.
 use Rattle.std.specs.Prelude.{ℕ, ◌^◌, ◌&&◌, List, [], ◌∷◌, length, Bool, codes, Result, Ok, Err, if◌then◌else◌, nat_lt}
 use Rattle.std.specs.List.{list_all}
 use Rattle.std.specs.Str.{bytes_eq}
@@ -64,7 +64,7 @@ edition_by (Err why) = First
 abbrev pub edition_of : List ℕ → Edition
 edition_of text = edition_by (and_then phrase_form (json_form text))
 
--- a configuration has room for the number
+-- the number fits into its type
 abbrev pub fits : ℕ → Bool
 fits n = nat_lt n (2 ^ 32)
 
@@ -77,7 +77,7 @@ all_fit g = fits g.own && (list_all fits g.members && (fits g.clients && (fits g
 abbrev pub if_fit : List Configuration → Result (List Configuration) Refusal
 if_fit gs = if list_all all_fit gs then Ok gs else Err BadConfig
 
--- the engines that a line says
+-- the engines that a line lists
 abbrev pub said_engines : List ℕ → Result (List Configuration) Refusal
 said_engines text = and_then if_fit (and_then world_form (json_form text))
 

@@ -1,4 +1,4 @@
--- What is told of a bad script.
+-- What is reported of a bad script.
 use Rattle.std.specs.Prelude.{◌≡◌, ◌⊎◌, ◌++◌, ℕ, List, Result, Err, codes, decimal}
 use Rattle.ids.specs.declared.refusal.Refusal.{Refusal}
 use Rattle.ids.specs.declared.refusal.Refusal.TheVariants.{NoMemory}
@@ -7,12 +7,12 @@ use Rattle.scripts.specs.declared.error.ScriptError.{ScriptError}
 use Rattle.scripts.specs.declared.error.ScriptError.TheVariants as error
 use Rattle.world.specs.wire.Lines.{Bad}
 
--- a failed allocation is no line's fault
+-- a failed allocation is the fault of no line
 abbrev pub error_of : ℕ → Refusal → ScriptError
 error_of line NoMemory = error.NoMemory
 error_of line why = error.BadLine line why
 
--- the line's number and the number of the refusal, as in `line 3: E22`
+-- the line's number and the number of the refusal, such as `line 3: E22`
 abbrev pub error_text : ScriptError → List ℕ
 error_text (error.BadLine line why) = codes "line " ++ (decimal line ++ (codes ": E" ++ decimal (number_of why)))
 error_text error.NoMemory = codes "no memory"

@@ -1,4 +1,4 @@
--- What a step replies, as JSON and as a printed line.
+-- The reply to a step, as JSON and as a printed line.
 use Rattle.std.specs.Prelude.{ℕ, List, [], ◌∷◌, ◌++◌, Option, Some, None, codes}
 use Rattle.ids.specs.declared.refusal.Refusal.{Refusal}
 use Rattle.semantics.specs.Engine.{StepReply, Ticket, Denied, Took, Published, Gave, Idle, Unanswered, Replied, Read, Seen, SentHello}
@@ -9,13 +9,13 @@ use Rattle.world.specs.wire.Operations.{phrase}
 use Rattle.world.specs.wire.Vectors.{count, vector_json}
 use Rattle.requests.specs.Readings.{reading_json, refusal_name, reply_json}
 
--- the first serial and how many operations were submitted, and the line where that stopped
+-- the first serial and how many operations were submitted, and the line where that stopped, if it did
 abbrev pub received_json : ℕ → ℕ → Option (ℕ × Refusal) → Data
 received_json first operations None = phrase (codes "received") (count first ∷ count operations ∷ [])
 received_json first operations (Some bad) = phrase (codes "received")
     (count first ∷ count operations ∷ count bad.0 ∷ string (refusal_name bad.1) ∷ [])
 
--- what a step replies
+-- the reply to a step
 abbrev pub step_reply_json : StepReply → Data
 step_reply_json (Ticket serial) = phrase (codes "ticket") (count serial ∷ [])
 step_reply_json (Denied why) = phrase (codes "refused") (string (refusal_name why) ∷ [])

@@ -1,4 +1,4 @@
--- What a whole script is: engines and steps. The first bad line, by its number, decides.
+-- A whole script: engines and steps. The first bad line, by its number, decides.
 use Rattle.std.specs.Prelude.{ℕ, ◌+◌, List, [], ◌∷◌, Result, Ok, Err}
 use Rattle.ids.specs.Configurations.{Configuration}
 use Rattle.ids.specs.declared.refusal.Refusal.TheVariants.{BadLine}
@@ -16,11 +16,11 @@ steps_from edition engines number (l ∷ ls) tail =
     unless_bad (λ s. unless_bad (λ ss. Ok (s ∷ ss)) (steps_from edition engines (number + 1) ls tail))
     (on_line number (step_line edition engines l))
 
--- the steps in what is left of a script, after this many lines
+-- the steps in the rest of a script, after this many lines
 abbrev pub steps_left : Edition → List Configuration → ℕ → List ℕ → Result (List WorldStep) Bad
 steps_left edition engines taken rest = steps_from edition engines (taken + 1) (cut rest).lines (cut rest).tail
 
--- the first line has the engines, and each line after it a step; where there is none, line 1 is bad
+-- the first line has the engines, and each line after it a step; if there is none, line 1 is bad
 abbrev pub script_of : List (List ℕ) → List ℕ → Result (List Configuration × List WorldStep) Bad
 script_of [] tail = Err (1, BadLine)
 script_of (l ∷ ls) tail =

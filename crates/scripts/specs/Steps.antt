@@ -1,4 +1,4 @@
--- What a line of a script is as a step.
+-- A line of a script, as a step.
 use Rattle.std.specs.Prelude.{ℕ, List, [], codes, Result, Ok, Err, if◌then◌else◌}
 use Rattle.std.specs.Str.{bytes_eq}
 use Rattle.ids.specs.Configurations.{Configuration}
@@ -31,11 +31,11 @@ ask_of edition (item engine (item token (item question no_items))) =
     (λ q. Ok (step_by e (Ask t q))) (question_form edition question)) (number_form token)) (number_form engine)
 ask_of edition _ = Err BadLine
 
--- a client receives what can be read of lines
+-- a client receives what can be read of the lines
 abbrev pub lines_step : ℕ → ℕ → Readable → WorldStep
 lines_step e c r = step_by e (Lines c r.operations r.stopped)
 
--- an engine, a client and a text of any lines, whose first one stands beside the empty vector
+-- an engine, a client and a text of any lines, the first of which is relative to the empty vector
 abbrev pub line_of : Items → Result WorldStep Refusal
 line_of (item engine (item client (item text no_items))) =
     and_then

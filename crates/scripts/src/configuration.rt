@@ -44,8 +44,8 @@ impl Model for WrittenConfig {
     } };
 }
 
-/// The edition of a script with this first line, and the engines that it opens, from 1 to 16 of them. Whether they are within the limits
-/// is for the world to test.
+/// The edition of a script with this first line, and the engines that it opens, from 1 to 16 of them. Whether these are within the limits
+/// is up to the world to test.
 pub fn read_engines(alloc: Global, text: &[u8]) -> Result<(Edition, Vec<Config>), Refusal>
     ensures engines { IsRead (λ p. p.1.items) result (said_engines text.now) }
     ensures edition { IfOk result (λ p. p.0 ≡ edition_of text.now) }

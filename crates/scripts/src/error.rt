@@ -11,12 +11,12 @@ use thiserror::Error;
 /// Why a script has no replies.
 #[derive(Debug, Drop, Error)]
 pub enum ScriptError {
-    /// The first line that is bad, counted from 1, and why.
+    /// The first bad line, counted from 1, and why it is bad.
     BadLine { line: u64, refusal: Refusal },
     NoMemory,
 }
 
-// Written out, since no contract says what a derived one prints.
+// Written by hand, since no contract says what a derived one prints.
 impl fmt::Display for ScriptError {
     ghost use Rattle.std.specs.Prelude.{Some};
     ghost use Rattle.scripts.specs.Errors.{error_text};

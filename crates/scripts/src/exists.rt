@@ -40,7 +40,7 @@ fn has_client(engines: &[Config], engine: usize, client: usize) -> bool
     }
 }
 
-/// An engine's tokens are its clients', then its readers'.
+/// Whether the engine has this token: its tokens are first its clients', then its readers'.
 fn has_token(engines: &[Config], engine: usize, token: usize) -> bool
     ensures { result ≡ token_there engines.now engine token }
 {

@@ -17,7 +17,7 @@ use requests::{put_made, put_one, put_reading, put_refusal, put_refused, put_two
 use std::alloc::{AllocError, Global};
 use world::{LINE_END, NamedVector, Reply, WorldReply, put_vector};
 
-/// The replies, one a line.
+/// The replies, one per line.
 pub fn reply_lines(alloc: Global, replies: &[WorldReply]) -> Result<String, AllocError>
     ensures { IfOk result (λ s. string_bytes s ≡ reply_text (map step_reply_of replies.now)) }
 {
@@ -32,7 +32,7 @@ pub fn reply_lines(alloc: Global, replies: &[WorldReply]) -> Result<String, Allo
     Ok(lines)
 }
 
-/// The text with the reply after what it holds.
+/// The text followed by the reply.
 fn with_reply(alloc: Global, text: Vec<u8>, reply: &WorldReply) -> Result<Vec<u8>, AllocError>
     ensures line { IfOk result (λ t. t.items ≡ text.items ++ compact_text (step_reply_json (step_reply_of reply.now))) }
     ensures utf8 { OnOk result (IsUtf8 (compact_text (step_reply_json (step_reply_of reply.now)))) }
@@ -94,7 +94,7 @@ fn put_denied(alloc: Global, out: &mut Writer, why: Refusal) -> Result<(), Alloc
     out.end_array()
 }
 
-/// Writes the number of a message that a vector is sent by, and the vector.
+/// Writes the number of the message by which a vector is sent, and the vector.
 fn put_hello(out: &mut Writer, message: u64, vector: &NamedVector) -> Result<(), AllocError>
     ensures { OnOk result (IsWritten (tokens_of (step_reply_json (SentHello message vector.now))) out.old out.new) }
 {
@@ -121,7 +121,7 @@ fn put_received(
     }
 }
 
-/// Writes the first serial and how many operations were submitted, and the line where that stopped, and why.
+/// Writes the first serial and how many operations were submitted, and the line where that stopped and why.
 fn put_received_until(
     alloc: Global,
     out: &mut Writer,

@@ -10,11 +10,11 @@ use crate::replies::reply_lines;
 use crate::script::{Script, read_script};
 use std::alloc::Global;
 
-/// The replies to the steps of a script, in a new world of its engines: a line of JSON each. Every line of the script is checked
+/// The replies to the steps of a script, in a new world of its engines, as one line of JSON each. Every line of the script is checked
 /// before its first step is run.
 ///
 /// # Errors
-/// `BadLine` of the first bad line, else `NoMemory` if allocation fails.
+/// `BadLine` for the first bad line, else `NoMemory` if allocation fails.
 pub fn replies_to(alloc: Global, script: &[u8]) -> Result<String, ScriptError>
     ensures ok { IfOk result (λ s. IsReplyText script.now (string_bytes s)) }
     ensures err { IfErr result (IsErrorOf (script_form script.now)) }

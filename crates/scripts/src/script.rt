@@ -24,14 +24,14 @@ use world::{Lines, World, WorldStep};
 pub struct Script {
     /// The world of its first line.
     pub world: World,
-    /// The steps of its further lines.
+    /// The steps of its other lines.
     pub steps: Vec<WorldStep>,
 }
 
 /// Reads a script and checks each line.
 ///
 /// # Errors
-/// `BadLine` of the first bad line, else `NoMemory` if allocation fails.
+/// `BadLine` for the first bad line, else `NoMemory` if allocation fails.
 pub fn read_script(alloc: Global, bytes: &[u8]) -> Result<Script, ScriptError>
     ensures ok { IfOk result
         (λ s. (gs : List Configuration) × (script_form bytes.now ≡ Ok (gs, map step_of s.steps.items))
@@ -48,7 +48,7 @@ pub fn read_script(alloc: Global, bytes: &[u8]) -> Result<Script, ScriptError>
     }
 }
 
-/// The world of these engines, with the steps on the lines that are left.
+/// The world of these engines, with the steps on the remaining lines.
 fn open(
     alloc: Global,
     edition: Edition,
@@ -85,7 +85,7 @@ fn with_steps(
     Ok(Script { world, steps })
 }
 
-/// The steps on the lines that are left.
+/// The steps on the remaining lines.
 fn read_steps(
     alloc: Global,
     edition: Edition,

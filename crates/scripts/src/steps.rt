@@ -1,4 +1,4 @@
-//! A script's steps, one a line.
+//! A script's steps, one per line.
 #![tactic(auto, using(crate::proofs::WrongLengths::step_lengths))]
 
 ghost use Rattle.std.specs.Prelude.{◌≡◌, ℕ, List, Ok};
@@ -98,7 +98,7 @@ fn line_in(alloc: Global, parts: &[Value]) -> Result<WorldStep, Refusal>
     })
 }
 
-/// A line that is read as a step that holds a command or a question has the JSON that writing it gives, whatever its spaces and escapes.
+/// A line that is read as a step with a command or a question has the JSON that writing it gives, whatever its spaces and escapes.
 pub fn what_is_read_is_written_alike()
     ensures push { (edition : Edition) (text : List ℕ) (e c : ℕ) (k : TheCommand)
         → and_then (step_form edition) (json_form text) ≡ Ok (step_by e (Push c k)) → json_form text ≡ Ok (push_json e c k) }

@@ -172,7 +172,7 @@ complete_after : (W : World) (steps : List WorldStep) → AreComplete W → AreC
 complete_after W [] h = h
 complete_after W (w ∷ steps) h = complete_after (world_step W w).world steps (world_complete W w h)
 
--- In every run all that a client submitted is there.
+-- In every run everything that a client submitted is there.
 pub all_submitted : (cs : List Configuration) (steps : List WorldStep) (e : ℕ) (E : Engine) → IsEngineAfter cs steps e E → (c : ℕ)
     → HasAllSubmitted E c
 all_submitted cs steps e E h = complete_after (opened cs) steps (complete_opened cs) e E h

@@ -27,7 +27,7 @@ legal_counters (x ∷ H) l o
     omega (arith, c, k, z))
 legal_counters (x ∷ H) l o (inr m) = legal_counters H l.0 o m
 
--- the order of the operations says nothing
+-- the order of the operations doesn't matter
 pub vector_same : (H O : List Operation) → HaveSameOperations O H → ((o : Operation) → IsAmong o H → o.id.counter ≢ 0)
     → vector_of H ≡ vector_of O
 vector_same H O same h =

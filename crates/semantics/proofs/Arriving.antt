@@ -59,7 +59,7 @@ HasCome r s =
     ⊎ (has_id (operations r) s.id ≡ true)
     ⊎ (lacks_room (table_of r) s.id.replica ≡ true)
 
--- who lacks room lacks it after a delivery too
+-- a replica that lacks room lacks it after a delivery too
 pub lacks_received : (r : Replica) (s : Stamped) → IsRunning r → (p : ℕ) → lacks_room (table_of r) p ≡ true
     → lacks_room (table_of (receive r s)) p ≡ true
 lacks_received r s h p lacks =

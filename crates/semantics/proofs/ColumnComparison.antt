@@ -1,4 +1,4 @@
--- To compare columns is to compare vectors.
+-- Comparing columns is comparing their vectors.
 use Rattle.std.proofs.Common.{◌≡◌, ℕ, ◌≤◌, Bool, true, false, cond, ◌==◌, List, [], ◌∷◌, refl, sym, ap, ◌∙◌, true≢false, arith, length}
 use Rattle.std.proofs.Common.{nat_le}
 use Rattle.std.proofs.lemmas.Bool.{or_left, or_right, false_from_ne_true, eqb-true, eq-eqb, cond-false}
@@ -67,7 +67,7 @@ at_most-by_table ps cs ds a l m = same_bool _ _
     (λ p. (let k = columns-at (λ n. n) ps cs ds h p in let u = at-by_table ps cs a p in let v = at-by_table ps ds a p in
     omega (arith, k, u, v))))
 
--- ready is a comparison with the column of all that was applied
+-- an operation is ready exactly where its column is at most that of all that was applied
 pub ready-by_table : (G : List Operation) (ps cs ds : List ℕ) (s : Stamped) → s.vector ≡ by_table ps cs → AreDistinct ps
     → length cs ≡ length ps → length ds ≡ length ps → ((p : ℕ) → component ps ds p ≡ greatest_counter G p)
     → is_ready G s ≡ all_at_most cs ds

@@ -29,7 +29,7 @@ pub those_from : (r : Replica) (F : List Stamped) → ((s : Stamped) → IsAmong
 those_from r [] h = λ i e. absurd (true≢false (sym e))
 those_from r (s ∷ F) h = one_more s F r (h s (inl refl)) (those_from r F (λ x m. h x (inr m)))
 
--- what P says is so of each of these
+-- P holds of each of these
 abbrev pub AllAre : (Stamped → Type 0) → List Stamped → Type 0
 AllAre P F = (s : Stamped) → IsAmong s F → P s
 
@@ -37,7 +37,7 @@ pub one_more_is : (P : Stamped → Type 0) (s : Stamped) (F : List Stamped) → 
 one_more_is P s F p h x (inl e) = subst P (sym e) p
 one_more_is P s F p h x (inr m) = h x m
 
--- each of these is as P says, unless L holds
+-- P holds of each of these, unless L holds
 pub all_unless : (P : Stamped → Type 0) (L : Type 0) (F : List Stamped) → ((s : Stamped) → IsAmong s F → P s ⊎ L) → AllAre P F ⊎ L
 all_unless P L [] h = inl (λ s m. absurd m)
 all_unless P L (s ∷ F) h = elim (h s (inl refl)) [
@@ -45,7 +45,7 @@ all_unless P L (s ∷ F) h = elim (h s (inl refl)) [
   | inl p ↦ elim (all_unless P L F (λ x m. h x (inr m))) [ inr l ↦ inr l | inl q ↦ inl (one_more_is P s F p q) ]
 ]
 
--- the first request is for an operation, and what is before that is as P says
+-- the first request is for an operation, and P holds of those before it
 pub record HasNext (base : List Operation) (F : List Stamped) (P : Stamped → Type 0) (q : Request) (qs : List Request) : Type 0 where
   pub operation : Stamped
   pub before : List Stamped
@@ -110,7 +110,7 @@ module _ (base : List Operation) (F : List Stamped) where
         let rest : all ≡ qs = cc in
         record { operation = s; before = there; is = sym first; had = had; comes = subst (Comes base F (s ∷ there)) rest h }
 
-    -- where no request is left, all of the history is so
+    -- where no request is left, P holds of all the history
     pub all_came : (there : List Stamped) (all : List Request) → Comes base F there all → AllAre P there → all ≡ [] → AllAre P F
     all_came _ _ End had e = had
     all_came there all (Had s _ _ b h) had e = all_came (s ∷ there) all h (one_more_is P s there (based s b) had) e

@@ -98,7 +98,7 @@ applied_there F c start end E s few (inr (inl x)) = absurd (true≢false (sym x.
 applied_there F c start end E s few (inr (inr k)) = inr k
 
 module _ (c start end : ℕ) (base : List Operation) (F : List Stamped) where
-  -- The history F is a legal one of the world K, and no longer than one may be.
+  -- The history F is a legal one of the world K, and no longer than a history may be.
   -- A beginning of it came to the engine, and what it awaits is the rest.
   pub record IsComing (K : List Operation) (E : Engine) : Type 0 where
     pub legal : IsLegalStamped F

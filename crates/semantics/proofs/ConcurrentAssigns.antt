@@ -36,7 +36,7 @@ first_history = refl
 second_history : history second ≡ id_at 1 1 ∷ id_at 2 2 ∷ id_at 2 1 ∷ []
 second_history = refl
 
--- both values stand, rising by id
+-- both values stand, in ascending order of id
 abbrev both_values : Answer
 both_values = ValuesAre ((id_at 2 1, Text (codes "B")) ∷ (id_at 2 2, Text (codes "C")) ∷ [])
 

@@ -1,4 +1,4 @@
--- Deliveries and own operations keep what holds of a replica.
+-- Deliveries and own operations preserve the invariant of a replica.
 use Rattle.std.proofs.Common.{◌≡◌, ◌≢◌, inl, inr, ℕ, Bool, true, false, cond, ◌||◌, ◌==◌, Option, Some, None, Ok, refl, sym, ap, ◌∙◌, subst}
 use Rattle.std.proofs.lemmas.Bool.{or_parts, or_from, false_from_ne_true, eqb-false}
 use Rattle.semantics.specs.Ids.{OpId, is_same_id}

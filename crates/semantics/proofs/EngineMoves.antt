@@ -31,7 +31,7 @@ pub record HasTaken (E F : Engine) (x : Submitted) : Type 0 where
   pub replica : F.replica ≡ after_submission E.replica x
   pub replied : IsAmong (record { submitted = x; reply = reply_to E.replica x }) F.handled
 
--- A claim on an engine that is kept as it goes on, where what is submitted is as P says.
+-- A claim about an engine that is kept as it goes on, where P holds of what is submitted.
 pub record IsKeptOn (P : Request → Type 0) (Claim : Engine → Type 0) : Type 0 where
   pub still : (E F : Engine) → IsLater E F → IsStill E F → Claim E → Claim F
   pub submitted : (E F : Engine) (x : Submitted) → IsSound E → HasSubmitted E F x → P x.request → Claim E → Claim F

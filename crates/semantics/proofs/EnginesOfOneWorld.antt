@@ -21,7 +21,7 @@ use Rattle.semantics.proofs.TrackedEngines.{IsEngineOf, IsTracked, IsRequestOf, 
 use Rattle.semantics.proofs.SentOperations.{sent_there, get-append_either}
 use Rattle.semantics.proofs.OpenedWorlds.{IsWorldOf, opened_world}
 
--- W is of a world that K has grown to, with the claim on engine a
+-- W is of a world that K has grown to, with the claim about engine a
 pub record IsFurther (Claim : List Operation → Engine → Type 0) (a : ℕ) (K : List Operation) (W : World) : Type 0 where
   pub world : List Operation
   pub within : AreWithin K world
@@ -33,7 +33,7 @@ pub record IsFurther (Claim : List Operation → Engine → Type 0) (a : ℕ) (K
 module _ (Claim : List Operation → Engine → Type 0) (kept : IsTracked Claim) (a : ℕ) (K : List Operation) (W : World) (w : WorldStep)
     (sound : IsSoundWorld W) (known : is_of_lines w.act ≡ false) (h : IsWorldOf K W)
     (claim : (A : Engine) → slice_get W.engines a ≡ Some A → Claim K A) where
-  -- the claim, where it is on the engine that moves
+  -- the claim, where it is about the engine that moves
   abbrev here : List Operation → Engine → Type 0
   here L E = w.engine ≡ a → Claim L E
 

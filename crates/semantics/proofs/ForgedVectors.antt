@@ -32,7 +32,7 @@ crowded = record (new 1) { members = numbers_to 256 }
 wrong_counter : answer_to (new 1) (deletes_key 9 2 (id_at 7 1 ∷ [])) ≡ NotKept BadCounter
 wrong_counter = refl
 
--- who isn't a member is kept too, and what names one waits for it
+-- what a nonmember made is kept too, and what names a nonmember waits for it
 new_sender : answer_to (new 1) (deletes_key 1 4 []) ≡ Kept
 new_sender = refl
 

@@ -55,7 +55,7 @@ drained_short (suc n) r h = at_full (λ q k. drained_short n q k) (is_full r.ent
 length_applied : (r : Replica) → length (operations r) ≡ length r.entries
 length_applied r = length_operations (stamped_entries r.entries) ∙ length_stamped r.entries
 
--- what is made is made of a history that isn't full
+-- what is made is made after a history that isn't full
 made_short : (r : Replica) (x : Submitted) (c : Command) → IsShort r → (m : Result Operation Refusal) → make (operations r) r.own c ≡ m
     → IsShort (after_made r x c m)
 made_short r x c h (Err why) e = h

@@ -1,4 +1,4 @@
--- An inbox that is full: 4,096 operations wait, and one more slot is held for what is ready.
+-- An inbox that is full: 4,096 operations wait, and there is one more slot for a ready one.
 use Rattle.std.specs.Prelude.{◌≡◌, ℕ, zero, suc, ◌-◌, List, [], ◌∷◌, length, codes, refl}
 use Rattle.ids.specs.declared.refusal.Refusal.TheVariants.{InboxFull}
 use Rattle.semantics.specs.Ids.{id_at}

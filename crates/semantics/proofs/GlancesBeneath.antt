@@ -34,7 +34,7 @@ set_shows H O legal same =
       conflicts = λ e. live_same O H same distinct counted e i;
     }
 
--- What is seen of a legal history at a glance is what its operations show, as a set.
+-- A glance at a legal history shows what its operations show, as a set.
 pub glance_is_view : (H O : List Operation) → IsLegal H → HaveSameOperations O H → (depth elements : ℕ) (e : Element)
     → glance_of (shown_by (doc H)) depth elements e ≡ glance_of (live_shown O) depth elements e
 glance_is_view H O legal same depth elements e =

@@ -44,7 +44,7 @@ part n r q h e =
       running = subst IsRunning (sym e) (running_counted (drain_for n r) d.0);
     }
 
--- a drain that ended early or not made some turns
+-- a drain made some turns, whether it ended early or not
 pub part_to : (b : Bool) (r q : Replica) → IsRunning r → DrainsTo r b q → IsPart r q
 part_to true r q h d = part d.0 r q h d.1
 part_to false r q h d = part (length r.waiting) r q h d
@@ -69,7 +69,7 @@ peers_for x (s ∷ M) = peers_for x M
 
 -- ---- items
 
--- where all serials of the client are below, what is refused stands nowhere
+-- where all serials of the client are smaller, what is refused stands nowhere
 lacks_refused : (x : Submitted) (y : Reply) (G : List Entry) → IsAbove x.client x.serial G → LacksRefused G x y
 lacks_refused x (Made a n) G above = tt
 lacks_refused x (RefusedAt e m) G above = above_lacks x.client x.serial G above
@@ -89,7 +89,7 @@ unchanged r x y h above a = record {
   answer = (a, lacks_refused x y r.entries above);
 }
 
--- a refusal for what isn't a rule
+-- a refusal that isn't one of the rules
 refused_lacking : (r : Replica) (x : Submitted) (c : Command) → IsAbove x.client x.serial r.entries
     → LacksSerial x.client x.serial (first_entries (length r.entries) r.entries)
 refused_lacking r x c above = subst (LacksSerial x.client x.serial) (sym (all_first r.entries))

@@ -49,7 +49,7 @@ of-append c (x ∷ xs) ys = of_one_more (x.client == c) x (of_client c (xs ++ ys
 of_itself : (x : Submitted) → of_client x.client (x ∷ []) ≡ x ∷ []
 of_itself x = ap (λ b. cond b (x ∷ []) []) (eq-eqb x.client x.client refl)
 
--- what stands in a list stands there however it goes on
+-- what stands in a list stays there however the list goes on
 pub get_longer : (xs ys : List Submitted) (n : ℕ) (x : Submitted) → slice_get xs n ≡ Some x → slice_get (xs ++ ys) n ≡ Some x
 get_longer [] ys n x h = cc
 get_longer (y ∷ xs) ys zero x h = h

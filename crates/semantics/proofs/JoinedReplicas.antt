@@ -1,4 +1,4 @@
--- Who is a member is in the table that a history leaves, and a table that is full stays as it is.
+-- Each member is in the table that a history leaves, and a table that is full stays as it is.
 use Rattle.std.proofs.Common.{◌≡◌, ℕ, Bool, true, false, not, ◌&&◌, cond, nat_le, List, [], ◌∷◌, ◌++◌, length, refl, sym, ap, ◌∙◌}
 use Rattle.std.proofs.Common.{true≢false}
 use Rattle.std.proofs.lemmas.Bool.{and_parts, false_from_ne_true}
@@ -12,7 +12,7 @@ use Rattle.semantics.specs.WorldHistory.{BeginsWith}
 
 -- ---- one more replica
 
--- who is there doesn't join, and where there is room one joins behind
+-- a replica in the table doesn't join again, and where there is room another one joins behind
 pub within_known : (q : ℕ) (ps : List ℕ) → is_member ps q ≡ true → joined_within q ps ≡ ps
 within_known q ps m = ap (λ b. cond (not b && nat_le most_named (length ps)) ps (cond b ps (ps ++ q ∷ []))) m
 
@@ -28,7 +28,7 @@ member_within q ps p m = elim (lacks_room ps q) as (λ b. is_member (cond b ps (
   | false ↦ member_joined q ps p m
 ]
 
--- nobody joins a full table
+-- no replica joins a full table
 pub full_within : (q : ℕ) (ps : List ℕ) → nat_le most_named (length ps) ≡ true → joined_within q ps ≡ ps
 full_within q ps full = by (is_member ps q) refl
   where
@@ -40,7 +40,7 @@ full_within q ps full = by (is_member ps q) refl
 pub lacking_full : (ps : List ℕ) (p : ℕ) → lacks_room ps p ≡ true → nat_le most_named (length ps) ≡ true
 lacking_full ps p lacks = (and_parts (not (is_member ps p)) (nat_le most_named (length ps)) lacks).1
 
--- who lacks room lacks it still as another one joins
+-- a replica that lacks room still lacks it as another one joins
 pub lacks_within : (q : ℕ) (ps : List ℕ) (p : ℕ) → lacks_room ps p ≡ true → lacks_room (joined_within q ps) p ≡ true
 lacks_within q ps p lacks = ap (λ t. lacks_room t p) (full_within q ps (lacking_full ps p lacks)) ∙ lacks
 
@@ -58,7 +58,7 @@ module _ (ms : List ℕ) (p : ℕ) (member : is_member ms p ≡ true) where
   pub room_after : (G : List Entry) → lacks_room (table_after ms G) p ≡ false
   room_after G = member_fits (table_after ms G) p (member_after G)
 
--- what has room has it in each beginning
+-- a replica that has room has it in each beginning
 pub had_room_before : (ms : List ℕ) (more G : List Entry) → HadRoom ms (more ++ G) → HadRoom ms G
 had_room_before ms [] G h = h
 had_room_before ms (e ∷ more) G h = had_room_before ms more G h.0
@@ -75,7 +75,7 @@ pub full_stays_so : (ms : List ℕ) (G F : List Entry) → BeginsWith G F → na
     → table_after ms G ≡ table_after ms F
 full_stays_so ms G F b full = ap (table_after ms) b.1 ∙ stays_behind ms b.0 F full
 
--- who lacks room lacks it later too
+-- a replica that lacks room lacks it later too
 pub lacks_later : (ms : List ℕ) (p : ℕ) (G F : List Entry) → BeginsWith G F → lacks_room (table_after ms F) p ≡ true
     → lacks_room (table_after ms G) p ≡ true
 lacks_later ms p G F b lacks =

@@ -1,4 +1,4 @@
--- All that clients submitted stays there where the writer sets an answer.
+-- All that clients submitted stays there when the writer sets an answer.
 use Rattle.std.proofs.Common.{◌≡◌, ◌⊎◌, inl, inr, ℕ, suc, List, [], ◌∷◌, ◌++◌, map, length, Option, Some, None, refl, sym, ap, ◌∙◌, subst}
 use Rattle.std.proofs.Common.{append_assoc, slice_get, slice_set}
 use Rattle.std.proofs.lemmas.Bool.{cases_eq}

@@ -1,4 +1,4 @@
--- A claim on an engine that is kept as it goes on is kept by each step of a world.
+-- A claim about an engine that is kept as it goes on is kept by each step of a world.
 use Rattle.std.proofs.Common.{◌≡◌, inl, inr, ℕ, zero, suc, false, List, [], ◌∷◌, length, Option, Some, None, refl}
 use Rattle.std.proofs.Common.{sym, ap, ◌∙◌, slice_get, true≢false}
 use Rattle.ids.specs.declared.refusal.Refusal.{Refusal}
@@ -77,7 +77,7 @@ module _ (P : Request → Type 0) (Claim : Engine → Type 0) (kept : IsKeptOn P
 
   -- ---- each step
 
-  -- what is submitted is as P says: each command, and each operation of a bundle and of the lines
+  -- P holds of what is submitted: of each command, and of each operation of a bundle and of the lines
   pub kept_by_act : (ms : List Message) (w : WorldAct) (E : Engine) → IsSound E
       → ((command : Command) → P (OfCommand command))
       → ((k : ℕ) (ss : List Stamped) (s : Stamped) → slice_get ms k ≡ Some (Bundle ss) → IsAmong s ss → P (OfPeer s))

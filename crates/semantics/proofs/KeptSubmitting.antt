@@ -1,4 +1,4 @@
--- All that clients submitted stays there where one of them submits a request.
+-- All that clients submitted stays there when one of them submits a request.
 use Rattle.std.proofs.Common.{◌≡◌, inl, inr, ℕ, suc, Bool, true, false, nat_le, [], ◌∷◌, ◌++◌, map, length, Option, Some, None, refl, sym}
 use Rattle.std.proofs.Common.{ap, ◌∙◌, subst, append_assoc, slice_get, slice_set}
 use Rattle.std.proofs.lemmas.Bool.{cases_eq}

@@ -32,7 +32,7 @@ pub mod FaultlessFollows
 pub mod FollowsFaultless
 pub mod AloneTests
 pub mod LawfulAlone
--- parts of a document at a glance
+-- glances at parts of a document
 pub mod GlancesBeneath
 -- expressions as a history grows
 pub mod LastingSteps

@@ -1,4 +1,4 @@
--- Replicas that go on from their journals are of one world.
+-- Replicas that resume from their journals are of one world.
 use Rattle.std.proofs.Common.{◌≡◌, ◌≢◌, inl, inr, ℕ, ◌≤◌, Bool, true, false, cond, ◌==◌, List, [], ◌∷◌, ◌++◌, Ok, refl, sym, ap, ◌∙◌, subst}
 use Rattle.std.proofs.Common.{length, arith, map}
 use Rattle.std.proofs.lemmas.Bool.{or_right, or_left, eqb-true, eqb-false}

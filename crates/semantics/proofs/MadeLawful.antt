@@ -81,7 +81,7 @@ module _ (H : List Operation) where
     form = form;
   }
 
-  -- what is made may follow, is p's, and depends on all that was applied
+  -- what is made may follow, has an id of p, and depends on all that was applied
   abbrev pub IsLawful : ℕ → Operation → Type 0
   IsLawful p o = Follows H o × (o.id.replica ≡ p) × ((a : OpId) → o.deps a ≡ has_id H a)
 

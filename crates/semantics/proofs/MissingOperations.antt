@@ -30,6 +30,6 @@ new_lacks = refl
 equal_lacks : lacking (id_at 2 1 ∷ id_at 2 2 ∷ []) ≡ []
 equal_lacks = refl
 
--- one that has the first lacks both others
+-- one that has the first lacks the other two
 older_lacks : lacking (id_at 1 1 ∷ []) ≡ b ∷ c ∷ []
 older_lacks = refl

@@ -50,7 +50,7 @@ table_kept r s Kept = refl
 table_kept r s Known = refl
 table_kept r s (NotKept f) = refl
 
--- what isn't full was not so before
+-- what isn't full wasn't full before
 pub free_before : (a b : Bool) → (a ≡ true → b ≡ true) → b ≡ false → a ≡ false
 free_before a b h f = false_from_ne_true a (λ t. true≢false (sym (h t) ∙ f))
 
@@ -124,10 +124,9 @@ untouched K o q r other h = record {
     made x (inl f) g = absurd (other (ap (λ (y : Operation). y.id.replica) (sym f) ∙ g))
     made x (inr m) g = h.made x m g
 
--- Whatever the replicas of a world did, one legal history holds what each of them has. A make puts its operation in front of that
--- history, where
--- it may follow, since its maker has all of its own and the history of each other replica only begins further back; what comes is in the
--- history already, since somebody has it.
+-- Whatever the replicas of a world did, one legal history holds what each of them has. A make puts its operation in front of that history,
+-- where it may follow, since its maker has all of its own; the history of each other replica only begins further back. What comes is in the
+-- history already, since some replica has it.
 pub one_world : (members : ℕ → List ℕ) (W : Replicas) → IsReached members W
     → (K : List Operation) × IsLegal K × ((p : ℕ) → IsReplicaOf K p (W p))
 one_world members W Opened = (

@@ -1,4 +1,4 @@
--- In one world to be ready is to have all that an operation depends on.
+-- In one world an operation is ready exactly if all that it depends on is there.
 use Rattle.std.proofs.Common.{◌≡◌, ◌≢◌, inl, inr, ℕ, ◌<◌, ◌≤◌, Bool, true, false, List, refl, sym, ap, ◌∙◌, subst, arith}
 use Rattle.std.proofs.lemmas.Bool.{and_parts, and_from, cases_eq}
 use Rattle.semantics.specs.Ids.{OpId, id_at}
@@ -82,7 +82,7 @@ module _ (K : List Operation) (lk : IsLegal K) (G F : List Operation) (lg : IsLe
       } in
       sym seen
 
-  -- ready means that what it depends on is there
+  -- an operation is ready where what it depends on is there
   pub ready_where_there : ((a : OpId) → o.deps a ≡ true → has_id G a ≡ true) → is_ready G s ≡ true
   ready_where_there before = ready-from G s (λ p.
       elim (cases_eq (at s.vector p) 0) [

@@ -1,4 +1,4 @@
--- What waits is never too much for a ready operation.
+-- There is always room for a ready operation.
 use Rattle.std.proofs.Common.{◌≡◌, inl, inr, ℕ, zero, suc, ◌≤◌, Bool, true, false, cond, ◌||◌, ◌==◌, nat_lt, List, [], ◌∷◌, Option, Some}
 use Rattle.std.proofs.Common.{None, refl, sym, ◌∙◌, true≢false, arith, length}
 use Rattle.std.proofs.lemmas.Bool.{ltb-false, eqb-false, or_parts}
@@ -39,7 +39,7 @@ shorter_for (suc n) r h = at_full (λ m k. shorter_for n m k) (is_full r.entries
     at_full rest true = omega arith
     at_full rest false = at_first rest (first_ready (operations r) r.waiting) refl
 
--- one leaves where one is ready
+-- one leaves if one is ready
 pub shorter_one : (n : ℕ) (r : Replica) (s : Stamped) → IsRunning r → is_full r.entries ≡ false → IsAmong s r.waiting
     → is_ready (operations r) s ≡ true → suc (length (drain_for (suc n) r).waiting) ≤ length r.waiting
 shorter_one n r s h few m ready = at_full (is_full r.entries) few

@@ -32,7 +32,7 @@ use Rattle.semantics.proofs.ReceivedItems.{running_counted}
 use Rattle.semantics.proofs.HandledItems.{as_stamped}
 use Rattle.semantics.proofs.GrownWorlds.{IsGrownBy, grown_not, full_stays}
 
--- what isn't ready isn't so by an operation that is new to the world
+-- what isn't ready doesn't become so by an operation that is new to the world
 still_unready : (K H : List Operation) → IsLegal K → IsLegal H → AreWithin H K → (o : Operation) → Follows K o → Follows H o → (s : Stamped)
     → IsOfWorld K s → is_ready H s ≡ false → is_ready (o ∷ H) s ≡ false
 still_unready K H lk lh w o fk fh s of unready = false_from_ne_true (is_ready (o ∷ H) s) (λ t.

@@ -1,4 +1,4 @@
--- An engine stays sound where one client moves.
+-- An engine stays sound when one client moves.
 use Rattle.std.proofs.Common.{◌≡◌, ◌⊎◌, inl, inr, ℕ, List, Some, sym, ap, ◌∙◌, subst, slice_get, slice_set}
 use Rattle.std.proofs.lemmas.Bool.{cases_eq}
 use Rattle.semantics.specs.LegalHistory.{IsAmong}

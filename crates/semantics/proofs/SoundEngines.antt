@@ -1,4 +1,4 @@
--- What holds of an engine at each moment of a run.
+-- The invariant of an engine, which holds at each moment of a run.
 use Rattle.std.proofs.Common.{◌≡◌, ℕ, suc, ◌<◌, ◌≤◌, List, [], ◌∷◌, ◌++◌, map, length, get_or, Some, None, slice_get}
 use Rattle.std.specs.Bool.{⊤}
 use Rattle.semantics.specs.LegalHistory.{IsAmong}
@@ -14,7 +14,7 @@ use Rattle.semantics.proofs.LastingAnswers.{IsGoodReply}
 abbrev pub waiting_items : List Handled → List Handled → List Submitted → List Submitted
 waiting_items due handled queue = map (λ h. h.submitted) due ++ (map (λ h. h.submitted) handled ++ queue)
 
--- the serials of each client rise
+-- the serials of each client are in ascending order
 abbrev pub IsInTurn : List Submitted → Type 0
 IsInTurn [] = ⊤
 IsInTurn (x ∷ items) = ((y : Submitted) → IsAmong y items → y.client ≡ x.client → x.serial < y.serial) × IsInTurn items

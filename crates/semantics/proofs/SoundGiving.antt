@@ -1,4 +1,4 @@
--- An engine stays sound where the writer sets the answer to the oldest item that is due.
+-- An engine stays sound when the writer sets the answer to the oldest item that is due.
 use Rattle.std.proofs.Common.{◌≡◌, inl, inr, ℕ, suc, ◌<◌, ◌≤◌, List, [], ◌∷◌, Option, Some, None, refl, sym, ap, ◌∙◌, subst, arith}
 use Rattle.std.proofs.Common.{slice_get}
 use Rattle.std.proofs.lemmas.Bool.{cases_eq}

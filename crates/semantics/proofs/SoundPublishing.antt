@@ -1,4 +1,4 @@
--- An engine stays sound where the writer publishes what it handled.
+-- An engine stays sound when the writer publishes what it handled.
 use Rattle.std.proofs.Common.{◌≡◌, Bool, true, false, ◌||◌, not, List, [], ◌∷◌, ◌++◌, length, refl, sym, subst, arith}
 use Rattle.std.proofs.lemmas.Bool.{or_parts}
 use Rattle.semantics.specs.LegalHistory.{IsAmong}

@@ -1,4 +1,4 @@
--- An engine stays sound where it answers a hello, and where a client receives what a peer sent.
+-- An engine stays sound when it answers a hello, and when a client receives what a peer sent.
 use Rattle.std.proofs.Common.{◌≡◌, ℕ, suc, List, [], ◌∷◌, Option, Some, None, refl, slice_get}
 use Rattle.ids.specs.declared.refusal.Refusal.{Refusal}
 use Rattle.semantics.specs.Stamped.{Stamped}

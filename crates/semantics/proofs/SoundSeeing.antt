@@ -1,4 +1,4 @@
--- An engine stays sound where a token sees more of what is published: at a poll and at a question.
+-- An engine stays sound when a token sees more of what is published: at a poll and at a question.
 use Rattle.std.proofs.Common.{◌≡◌, inl, ℕ, zero, suc, ◌-◌, ◌≤◌, max, List, [], ◌∷◌, length, get_or, Option, Some, None, refl, ap, arith}
 use Rattle.std.proofs.Common.{slice_get, slice_set}
 use Rattle.std.proofs.Math.Nat.{le-max_left, max-le}
@@ -112,7 +112,7 @@ seen_all E t s = seen E t E.published s (seen_within E s t) (omega arith)
 pub asked : (E : Engine) (t : ℕ) (q : Asked) → IsSound E → IsLater E (ask E t q).engine
 asked E t q s = seen_all E t s
 
--- A lesson keeps an engine sound.
+-- Learning of an answer keeps an engine sound.
 pub learned : (E : Engine) (t c serial : ℕ) → IsSound E → IsLater E (learn E t c serial).engine
 learned E t c serial s = at_client (slice_get E.clients c) refl
   where

@@ -1,4 +1,4 @@
--- One that leaves keeps what holds of a replica.
+-- An operation that leaves the inbox preserves the invariant of a replica.
 use Rattle.std.proofs.Common.{◌≡◌, inl, inr, suc, false, [], ◌∷◌, Option, Some, None, refl, sym, ◌∙◌, subst, true≢false, arith, length}
 use Rattle.std.proofs.lemmas.Bool.{or_from, false_from_ne_true}
 use Rattle.semantics.specs.Ids.{OpId, is_same_id}

@@ -1,4 +1,4 @@
--- Engines of one world, and claims on them that are kept as they and the world go on.
+-- Engines of one world, and claims about them that are kept as they and the world go on.
 use Rattle.std.proofs.Common.{◌≡◌, inl, inr, ℕ, List, refl, sym, ◌∙◌, subst}
 use Rattle.semantics.specs.Operations.{Operation}
 use Rattle.semantics.specs.LegalHistory.{IsLegal, IsAmong}
@@ -26,7 +26,7 @@ pub record IsEngineOf (K : List Operation) (E : Engine) : Type 0 where
   pub short : IsShort E.replica
   pub queued : (x : Submitted) → IsAmong x E.queue → IsRequestOf K x.request
 
--- A claim on an engine of a world that is kept as both go on.
+-- A claim about an engine of a world that is kept as both go on.
 pub record IsTracked (Claim : List Operation → Engine → Type 0) : Type 0 where
   pub grown : (K L : List Operation) (E : Engine) → AreWithin K L → Claim K E → Claim L E
   pub still : (K : List Operation) (E F : Engine) → IsLater E F → IsStill E F → Claim K E → Claim K F

@@ -1,4 +1,4 @@
--- What holds of a batch of submissions that a writer handled, and of all that it has taken.
+-- The invariant of a batch of submissions that a writer handled, and of all that it has taken.
 use Rattle.std.specs.Prelude.{◌≡◌, ◌-◌, ◌<◌, ◌≤◌, ℕ, ⊤, Some, List, [], ◌∷◌, ◌++◌, length, map, slice_get}
 use Rattle.semantics.specs.Making.{Command}
 use Rattle.semantics.specs.Entries.{Entry, Own, Peer}
@@ -43,7 +43,7 @@ pub record IsBatch (w : Handler) (took : List Submitted) (hs : List Handled) (v 
   pub taken : AreTaken (took ++ items_of hs) hs
   pub answers : AreAnswers v.replica.own v.replica.members v.replica.entries hs
 
--- v is w after it resumed: what holds of a writer still does
+-- v is w after it resumed: the invariant of a writer still holds
 pub record IsResumed (w : Handler) (took : List Submitted) (v : Handler) : Type 0 where
   pub own : v.replica.own ≡ w.replica.own
   pub members : v.replica.members ≡ w.replica.members

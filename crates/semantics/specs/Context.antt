@@ -8,7 +8,7 @@ use Rattle.semantics.specs.Elements.{Element, Scalar, Tag, Name, name_cmp, is_un
 use Rattle.semantics.specs.Operations.{Operation, target, tag_given, scalar_given, name_given, inserted_after}
 
 -- What stands at each element: its presence, its register, the names that fields of its map ever had, and the order of its list.
--- A presence and a register are finite maps, as lists of entries that rise by id.
+-- A presence and a register are finite maps, as lists of entries in ascending order of id.
 pub record Context : Type 0 where
   pub presence : Element → List (OpId × Tag)
   pub register : Element → List (OpId × Scalar)
@@ -33,7 +33,7 @@ put_name (Some n) ns = put name_cmp n tt ns
 abbrev pub without : {X : Type 0} → IdSet → List (OpId × X) → List (OpId × X)
 without S es = filter (λ e. not (S e.0)) es
 
--- in e and everything under it the entries whose ids are in S go, all others stay
+-- at e and everything under it, the entries whose ids are in S are removed, and all others stay
 abbrev pub clear : Context → Element → IdSet → Context
 clear C e S = record C {
   presence = λ x. cond (is_under x e) (without S (C.presence x)) (C.presence x);

@@ -19,7 +19,7 @@ pub data Delivered : Type 0 where
   Known : Delivered
   NotKept : Refusal → Delivered
 
--- one with the id waits
+-- an operation with this id waits
 abbrev pub is_waiting : List Stamped → OpId → Bool
 is_waiting W a = list_any (λ s. is_same_id s.id a) W
 
@@ -33,7 +33,7 @@ abbrev pub kept_unless : Option Refusal → Delivered
 kept_unless None = Kept
 kept_unless (Some f) = NotKept f
 
--- as many wait as may: one more slot is held for what is ready
+-- as many wait as may: there is one more slot for a ready operation
 abbrev pub is_crowded : (ready : Bool) → (waiting : ℕ) → Bool
 is_crowded ready n = nat_lt (cond ready most_waiting (most_waiting - 1)) n
 

@@ -18,7 +18,7 @@ is_any (x ∷ xs) = true
 abbrev pub visible_items : Context → Element → List OpId
 visible_items C l = filter (λ a. is_any (C.presence (Item l a))) (C.order l)
 
--- the names of the map's fields whose presence isn't empty, rising by bytes
+-- the names of the map's fields whose presence isn't empty, in byte order
 abbrev pub visible_names : Context → Element → List Name
 visible_names C e = filter (λ n. is_any (C.presence (Field e n))) (map (λ x. x.0) (C.fields e))
 

@@ -13,12 +13,12 @@ use Rattle.semantics.specs.Joining.{check_fault}
 use Rattle.semantics.specs.Replica.{Replica, operations}
 use Rattle.semantics.specs.Delivery.{deliver}
 
--- the first that is ready, so the smallest, since what waits rises by id
+-- the first that is ready, and so the smallest, since what waits is in ascending order of id
 abbrev pub first_ready : List Operation → List Stamped → Option Stamped
 first_ready H [] = None
 first_ready H (s ∷ W) = cond (is_ready H s) (Some s) (first_ready H W)
 
--- what waits but the one with the id
+-- what waits, without the operation with this id
 abbrev pub without_waiting : OpId → List Stamped → List Stamped
 without_waiting a W = filter (λ s. not (is_same_id s.id a)) W
 
@@ -45,7 +45,7 @@ drain_for (suc n) r = cond (is_full r.entries) r (at_ready (first_ready (operati
 abbrev pub drain : Replica → Replica
 drain r = drain_for (length r.waiting) r
 
--- how many were dropped is counted up to the greatest number of 64 bits
+-- the count of dropped operations stops at the greatest number of 64 bits
 abbrev pub counted : Replica → Replica
 counted r = record r { dropped = min r.dropped 18446744073709551615 }
 

@@ -30,7 +30,7 @@ pub record CanReceive (r : Replica) (F : List Stamped) (v : Vector) : Type 0 whe
   pub none_waits : r.waiting ≡ []
   pub legal : IsLegalStamped F
   pub world : AreOfOneWorld (operations r) (operations_of F)
-  -- it lacks nothing of its own
+  -- it lacks no operation of its own
   pub own : (s : Stamped) → IsAmong s F → s.id.replica ≡ r.own → IsTrue (has_id (operations r) s.id)
   -- the table has the replicas of all that it has, and room for those of F
   pub there : (x : Operation) → IsAmong x (operations r) → IsTrue (is_member (table_of r) x.id.replica)

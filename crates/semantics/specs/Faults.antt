@@ -49,11 +49,11 @@ alone_fault s = first_failed (has_counter s) (misplaced s.mutation s.place) (ite
 abbrev pub is_ready : List Operation → Stamped → Bool
 is_ready H s = list_all (λ a. nat_le a.counter (greatest_counter H a.replica)) s.vector
 
--- the counter named of the sender isn't the greatest that was applied of it
+-- the counter named for the sender isn't the greatest that was applied of it
 abbrev pub breaks_chain : List Operation → Stamped → Bool
 breaks_chain H s = not (at s.vector s.id.replica == greatest_counter H s.id.replica)
 
--- the counter named of p is that of no applied operation
+-- the counter named for p is that of no applied operation
 abbrev pub is_of_nobody : List Operation → Vector → ℕ → Bool
 is_of_nobody H v p = not (at v p == 0) && not (has_id H (id_at (at v p) p))
 
@@ -61,7 +61,7 @@ is_of_nobody H v p = not (at v p == 0) && not (has_id H (id_at (at v p) p))
 abbrev pub names_nothing : List Operation → Stamped → Bool
 names_nothing H s = list_any (λ a. is_of_nobody H s.vector a.replica) s.vector
 
--- an operation whose counter is the one named of its replica has a vector that isn't at most this
+-- an operation whose counter is the one named for its replica has a vector that isn't at most this one
 abbrev pub is_open : List Stamped → Vector → Bool
 is_open G v = list_any (λ x. (x.id.counter == at v x.id.replica) && not (is_at_most x.vector v)) G
 

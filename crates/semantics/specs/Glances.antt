@@ -1,4 +1,4 @@
--- A part of a document at a glance: what stands at an element and beneath it, as one list of rows.
+-- A glance at a part of a document: what stands at an element and beneath it, as one list of rows.
 use Rattle.std.specs.Prelude.{ℕ, ◌+◌, zero, suc, Bool, true, false, nat_lt, List, [], ◌∷◌, ◌++◌, length, map, take, Option, Some, None}
 use Rattle.std.specs.List.{filter, flat_map, list_any}
 use Rattle.semantics.specs.Ids.{OpId}
@@ -31,12 +31,12 @@ is_same_tag AsMap AsMap = true
 is_same_tag AsList AsList = true
 is_same_tag _ _ = false
 
--- as what something stands: each tag of these that stands there, once
+-- the kinds of value that stand there: each of these tags that occurs, once
 abbrev pub kinds_of : List (OpId × Tag) → List Tag
 kinds_of xs = filter (λ t. list_any (λ x. is_same_tag t x.1) xs) (AsRegister ∷ AsMap ∷ AsList ∷ [])
 
--- One element: how far beneath the one that was asked about it is, by which hop it was entered from the one above, as what something
--- stands there, its values, and whether something stands beneath that isn't shown since it is too deep.
+-- One element: how far it is beneath the one that was asked about, the hop by which it was entered from its parent, the kinds of value that
+-- stand there, its values, and whether something stands beneath it that isn't shown because it is too deep.
 pub record Row : Type 0 where
   pub depth : ℕ
   pub entered : Option Hop
@@ -62,19 +62,19 @@ pub record Glance : Type 0 where
   pub rows : List Row
   pub is_cut : Bool
 
--- so many of these rows
+-- the first n of these rows, and whether there are more
 abbrev pub first_rows : ℕ → List Row → Glance
 first_rows n rows = record { rows = take n rows; is_cut = nat_lt n (length rows) }
 
--- an element at a glance: down to a depth beneath it, and so many elements at most
+-- a glance at an element: down to a depth beneath it, and at most this many elements
 abbrev pub glance_of : Shown → (depth elements : ℕ) → Element → Glance
 glance_of S depth elements e = first_rows elements (rows_of S depth 0 None e)
 
--- the row, so much deeper
+-- the row, n deeper
 abbrev pub deeper : ℕ → Row → Row
 deeper n r = record r { depth = n + r.depth }
 
--- the rows of a glance at an element, as they stand in a glance at the one above, from which it is entered by this hop
+-- the rows of a glance at an element, as they stand in a glance at its parent, from which it is entered by this hop
 abbrev pub beneath : Hop → List Row → List Row
 beneath h [] = []
 beneath h (r ∷ rs) = record r { depth = 1 + r.depth; entered = Some h } ∷ map (deeper 1) rs

@@ -27,7 +27,7 @@ abbrev pub ResumesIf : Bool → Handler → Handler → Type 0
 ResumesIf true w v = DrainsTo w.replica v.behind v.replica
 ResumesIf false w v = v ≡ w
 
--- v is w after it went on with a drain that had ended early; it may have ended early again
+-- v is w after it resumed a drain that had ended early; it may have ended early again
 abbrev pub Resumes : Handler → Handler → Type 0
 Resumes w v = ResumesIf w.behind w v
 

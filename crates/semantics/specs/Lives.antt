@@ -1,5 +1,5 @@
--- Lives of many replicas: runs in which a replica may end at any moment, and go on from a journal, any beginning of its history that has
--- all that was handed out.
+-- Lives of many replicas: runs in which a replica may end at any moment, and resume from a journal, which is any beginning of its history
+-- that has all that was handed out.
 use Rattle.std.specs.Prelude.{◌≡◌, ℕ, ◌≤◌, cond, ◌==◌, List, [], length, map, Ok}
 use Rattle.semantics.specs.LegalHistory.{IsAmong}
 use Rattle.semantics.specs.NamedIds.{NamesAll}
@@ -25,7 +25,7 @@ pub record BringsBack (p n : ℕ) (G E : List Entry) : Type 0 where
   pub history : IsEntryHistory p E
   pub records : map recorded E ≡ map recorded (first_entries n G)
 
--- r after it ended and went on from these entries: what waited is gone, and comes again
+-- r after it ended and resumed from these entries: what waited is gone, and comes again
 abbrev pub gone_on : Replica → List Entry → Replica
 gone_on r E = record r { entries = E; waiting = []; dropped = 0 }
 

@@ -1,5 +1,5 @@
--- Runs of many replicas: each makes operations of its own, and any operation of any history may come to any replica, again, in
--- any order or never.
+-- Runs of many replicas: each makes operations of its own, and any operation of any history may reach any replica, repeatedly, in any order
+-- or never.
 use Rattle.std.specs.Prelude.{◌≡◌, ℕ, cond, ◌==◌, List, [], Ok}
 use Rattle.semantics.specs.LegalHistory.{IsAmong}
 use Rattle.semantics.specs.NamedIds.{NamesAll}

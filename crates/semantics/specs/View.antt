@@ -1,4 +1,4 @@
--- The answers from the operations as a set: the order of the list says nothing.
+-- The answers from the operations as a set: the order of the list doesn't matter.
 use Rattle.std.specs.Prelude.{Bool, cond, not, ◌&&◌, List, [], ◌∷◌, ◌++◌, map, Option, Some, None, is_some}
 use Rattle.std.specs.List.{filter, list_all, list_any}
 use Rattle.std.specs.declared.cmp.Ordering.{Ordering}
@@ -12,7 +12,7 @@ use Rattle.semantics.specs.Questions.{Lists, ConflictsAre, VectorIs, resolve, an
 use Rattle.semantics.specs.DocumentAnswer.{is_any}
 use Rattle.semantics.specs.NamedIds.{vector_of}
 
--- what the operations give, by their ids, which rise in the order R
+-- what the operations give, by their ids, in the order R
 abbrev pub collect : {X : Type 0} → (OpId → OpId → Ordering) → (Operation → Option X) → List Operation → List (OpId × X)
 collect R given [] = []
 collect R given (o ∷ O) = put_some R o.id (given o) (collect R given O)

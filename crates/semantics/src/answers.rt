@@ -30,7 +30,7 @@ pub fn readings_stay_legal()
         IsLegalReading G m q r → IsLegalReading (e ∷ G) m q r }
 {}
 
-/// A command stands in an entry history once: a client's serial is that of one entry.
+/// A command stands in an entry history at most once: no two entries have the same client and serial.
 pub fn serials_stand_once()
     ensures { (p : ℕ) (G : List Entry) (client serial n m : ℕ) (c d : Command) (s t : Stamped) → IsEntryHistory p G →
         entry_at n G ≡ Some (Own client serial c s) → entry_at m G ≡ Some (Own client serial d t) → n ≡ m }

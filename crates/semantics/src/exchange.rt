@@ -18,8 +18,8 @@ pub fn an_exchange_leaves_the_union()
         HasReceived r (receive_all r (missing v F)) F }
 {}
 
-/// In one world, whatever waits: delivering what a history has above a vector, in order, each followed by a drain, leaves all of
-/// it, unless the history is full or the table has no room for one of its replicas.
+/// In one world, whatever waits: delivering what a history has above a vector, in order, each followed by a drain, leaves the receiver with
+/// all of it, unless its history is full or its table has no room for one of the replicas.
 pub fn an_exchange_is_complete()
     ensures { (K : List Operation) (p : ℕ) (r : Replica) (v : Vector) (F : List Stamped) → IsLegal K → IsSettled K p r →
         ((q : ℕ) → at v q ≤ greatest_counter (operations r) q) → IsHistoryOf K F →

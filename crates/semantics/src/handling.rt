@@ -1,4 +1,4 @@
-//! What handling submissions keeps of a replica, and that its replies are legal.
+//! Handling submissions preserves the invariant of a replica, and its replies are legal.
 
 ghost use Rattle.std.specs.Prelude.{◌≡◌, ◌+◌, ◌<◌, ℕ, true, List, [], ◌∷◌, ◌++◌, length};
 ghost use Rattle.ids.specs.declared.refusal.Refusal.{Refusal};
@@ -12,7 +12,7 @@ ghost use Rattle.semantics.specs.Handling.{Handler, Resumes, Handles, IsAfter, i
 ghost use Rattle.semantics.specs.PeerAnswers.{IsAnswer};
 ghost use Rattle.semantics.specs.Batches.{ComeFrom, IsBatch, IsResumed, items_of};
 
-/// Handling a submission keeps what holds of a replica, whether an allocation fails or not, and the reply is a legal answer.
+/// Handling a submission preserves the invariant of a replica, whether an allocation fails or not, and the reply is a legal answer.
 pub fn handling_keeps_replicas()
     ensures { (w v : Handler) (x : Submitted) (y : Reply) → IsRunning w.replica → IsAbove x.client x.serial w.replica.entries →
         Handles w x y v → IsAfter w.replica x y v.replica }
@@ -24,13 +24,14 @@ pub fn answers_stay()
         → IsAnswer p ps G x y }
 {}
 
-/// Going on with a drain that ended early keeps what holds of a writer.
+/// Resuming a drain that ended early preserves the invariant of a writer.
 pub fn resuming_keeps_replicas()
     ensures { (w v : Handler) (took : List Submitted) → IsRunning w.replica → ComeFrom took w.replica.entries → Resumes w v
         → IsResumed w took v }
 {}
 
-/// Handling submissions one after another keeps what holds of a writer, and all their replies are legal answers in the history at the end.
+/// Handling submissions one after another preserves the invariant of a writer, and all their replies are legal answers in the history at
+/// the end.
 pub fn batches_grow()
     ensures none { (w : Handler) (took : List Submitted) → IsRunning w.replica → ComeFrom took w.replica.entries → IsBatch w took [] w }
     ensures one_more { (w u v : Handler) (took got : List Submitted) (hs : List Handled) (h : Handled) → IsBatch w took hs u →
@@ -38,8 +39,8 @@ pub fn batches_grow()
         Handles u h.submitted h.reply v → IsBatch w took (hs ++ h ∷ []) v }
 {}
 
-/// A submission that is refused because an allocation failed, or for its floor, changes nothing. It is refused for its floor
-/// exactly where that is above the history.
+/// A submission that is refused because an allocation failed, or for its floor, changes nothing. It is refused for its floor exactly if the
+/// floor is above the history.
 pub fn refused_items_change_nothing()
     ensures same { (w v : Handler) (x : Submitted) (e : Refusal) (m : ℕ) → is_outside_rules e ≡ true → Handles w x (RefusedAt e m) v
         → v ≡ w }

@@ -1,4 +1,4 @@
-//! What a journal determines, and what holds of replicas that go on from theirs.
+//! What a journal determines, and what holds of replicas that resume from theirs.
 
 ghost use Rattle.std.specs.Prelude.{◌≡◌, ℕ, List, map};
 ghost use Rattle.semantics.specs.Entries.{Entry, IsEntryHistory, applied};
@@ -13,8 +13,8 @@ pub fn records_determine_operations()
         → applied G ≡ applied F }
 {}
 
-/// Replicas that end at any moment, and go on from a journal that has all that they handed out, are the same replicas: each has a history
-/// as ever, and any two are of one world, so that an id is that of one operation wherever it stands (`ids_are_of_one_operation`).
+/// Replicas that end at any moment, and resume from a journal that has all that they handed out, are replicas like any other: the invariant
+/// of each holds, and any two are of one world, so that an id is that of one operation wherever it stands (`ids_are_of_one_operation`).
 pub fn lives_are_of_one_world()
     ensures histories { (members : ℕ → List ℕ) (L : Lives) → IsLived members L → (p : ℕ)
         → ((L.now p).own ≡ p) × IsRunning (L.now p) }

@@ -15,7 +15,7 @@ ghost use Rattle.semantics.specs.Drain.{drain, IsDrained};
 ghost use Rattle.semantics.specs.OneWorld.{AreWithin, AreOfOneWorld, IsHistoryOf, IsOfWorld, IsReplicaOf};
 ghost use Rattle.semantics.specs.Runs.{Replicas, IsReached};
 
-/// In every run of replicas of their own numbers, whatever comes in whatever order, all histories are of one legal history, and a
+/// In every run of replicas with distinct numbers, whatever arrives in whatever order, all histories are of one legal history, and a
 /// replica drops nothing unless its table is full.
 pub fn every_run_is_one_world()
     ensures { (members : ℕ → List ℕ) (W : Replicas) → IsReached members W →
@@ -36,7 +36,7 @@ pub fn ids_are_of_one_operation()
         ((p : ℕ) → at s.vector p ≡ at t.vector p) × (s.place ≡ t.place) × (s.mutation ≡ t.mutation) }
 {}
 
-/// In one world to be ready is to have all that an operation depends on.
+/// In one world an operation is ready exactly if all that it depends on is applied.
 pub fn ready_is_to_have_all()
     ensures { (G F : List Stamped) (s : Stamped) (o : Operation) → IsLegalStamped G → IsLegalStamped F →
         AreOfOneWorld (operations_of G) (operations_of F) → Means (operations_of F) s o →
@@ -44,7 +44,7 @@ pub fn ready_is_to_have_all()
         ↔ ((a : OpId) → IsTrue (o.deps a) → IsTrue (has_id (operations_of G) a))) }
 {}
 
-/// A world grows by what a replica makes that has all its own operations of the world.
+/// A world grows by what a replica makes, if the replica has all its own operations of the world.
 pub fn made_grows_the_world()
     ensures { (K H : List Operation) (p : ℕ) (c : Command) (o : Operation) → IsLegal K → IsLegal H → AreWithin H K →
         make H p c ≡ Ok o → ((x : Operation) → IsAmong x K → x.id.replica ≡ p → IsTrue (has_id H x.id)) → Follows K o }

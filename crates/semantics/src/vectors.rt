@@ -40,7 +40,7 @@ pub fn tables_name_vectors()
         ((p : ℕ) → at u p ≡ at v p) → u ≡ v }
 {}
 
-/// To compare columns is to compare vectors, and to be ready is to be at most the column of all that was applied.
+/// Comparing columns compares their vectors, and an operation is ready exactly if its column is at most that of all that was applied.
 pub fn columns_compare_vectors()
     ensures compared { (ps cs ds : List ℕ) → AreDistinct ps → length cs ≡ length ps → length ds ≡ length ps →
         is_at_most (by_table ps cs) (by_table ps ds) ≡ all_at_most cs ds }

@@ -60,8 +60,8 @@ pub fn no_submission_vanishes()
         (c : ℕ) → HasAllSubmitted E c }
 {}
 
-/// Each reply to a poll is a legal answer, in the published history, to what was submitted under that serial, and not below its floor. Of
-/// what a delivery's refusal is true, `deliveries_are_answered_truly` says.
+/// Each reply to a poll is a legal answer, in the published history, to what was submitted under that serial, and not below its floor.
+/// `deliveries_are_answered_truly` says what a delivery's refusal is true of.
 pub fn polls_reply_legally()
     ensures { (cs : List Configuration) (steps : List WorldStep) (e : ℕ) (E : Engine) → IsEngineAfter cs steps e E →
         (c serial : ℕ) (r : Reply) → (poll E c serial).reply ≡ Replied r →
@@ -90,8 +90,8 @@ pub fn refused_commands_stand_nowhere()
         (c serial : ℕ) (why : Refusal) (n : ℕ) → WasReplied E c serial (RefusedAt why n) → LacksSerial c serial E.replica.entries }
 {}
 
-/// Each reading is what a published history answers that begins with what its token had seen: the document's answer, and the view
-/// of its operations as a set.
+/// Each reading is the answer of a published history that begins with what its token had seen: the document's answer, and the view of its
+/// operations as a set.
 pub fn readings_are_of_what_is_published()
     ensures reading { (cs : List Configuration) (steps : List WorldStep) (e : ℕ) (E : Engine) → IsEngineAfter cs steps e E →
         (t : ℕ) (q : Asked) (n : ℕ) (R : Reading) → (ask E t q).reply ≡ Read n R →
@@ -102,8 +102,8 @@ pub fn readings_are_of_what_is_published()
         R ≡ Answered (view (applied (published_entries E)) q) }
 {}
 
-/// What a token reads, it has seen: after a question, a hello and an answer to one all that is published, after a poll and after it
-/// learnt of an answer at least what was published with that.
+/// A token has seen what it reads: after a question, a hello or an answer to a hello, all that is published; after a poll, or after it
+/// learnt of an answer, at least what was published with that answer.
 pub fn tokens_see_what_they_read()
     ensures asked { (E : Engine) (t : ℕ) (q : Asked) → t < length E.clients + length E.readers →
         seen_by (ask E t q).engine t ≡ E.published }

@@ -1,4 +1,4 @@
-//! What holds of every run of a world in which all that is received was sent by its engines, and no two have one own number.
+//! What holds of every run of a world in which all that is received was sent by its engines, and no two have the same own number.
 
 ghost use Rattle.std.specs.Prelude.{◌≡◌, ◌⊎◌, ℕ, List, ◌++◌, Some, slice_get};
 ghost use Rattle.ids.specs.Configurations.{Configuration};
@@ -38,9 +38,9 @@ pub fn messages_stay()
         slice_get (world_after (opened cs) (steps ++ more)).messages k ≡ Some m }
 {}
 
-/// An engine that said hello and received the answer has, once what came is handled, all that its peer had published when it
-/// answered, and none of it waits. Only where its history is full may an operation wait, or have been refused with HistoryFull when it
-/// was delivered; and only where its table has no room for a replica that wrote some of it may anything else be lacking.
+/// An engine that said hello and received the answer has, once what came is handled, all that its peer had published when it answered, and
+/// none of it waits. Only if its history is full may an operation wait, or have been refused with HistoryFull when it was delivered; and
+/// only if its table has no room for a replica that wrote some of it may anything else be lacking.
 pub fn an_exchange_of_messages_is_complete()
     ensures { (cs : List Configuration) (steps : List WorldStep) → HaveOwnNumbers cs → AreWithoutLines steps →
         (a b c first end : ℕ) (published : List Entry) (A : Engine) → IsExchange cs steps a b c first end published →

@@ -15,7 +15,7 @@ use Rattle.session.specs.wire.Profiles.{line_form, operation_beside}
 use Rattle.serde_json.specs.Data.{Data}
 use Rattle.ids.specs.declared.refusal.Refusal.TheVariants.{BadLine}
 
--- the text of these lines, and what is behind them
+-- the text of these lines, and what is after them
 joined : List (List ℕ) → List ℕ → List ℕ
 joined [] tail = tail
 joined (l ∷ ls) tail = l ++ 10 ∷ joined ls tail
@@ -50,7 +50,7 @@ ascii_end : IsAscii (10 ∷ [])
 ascii_end zero = omega arith
 ascii_end (suc i) = omega arith
 
--- where lines are read to their end, the first one and what follows it are
+-- if lines are read to their end, the first one and what follows it are UTF-8
 record IsMore (base : Vector) (line : List ℕ) (ls : List (List ℕ)) (tail : List ℕ) : Type 0 where
   first : Stamped
   read : line_form base line ≡ Ok first

@@ -1,4 +1,4 @@
--- How a document answers calls, and what its store has then.
+-- How a document answers calls, and what its store then has.
 use Rattle.std.specs.Prelude.{◌≡◌, ◌⊎◌, ◌+◌, ℕ, Bool, false, true, List, [], length, take, MatchOption, Option, option_map, Result, Ok, Err}
 use Rattle.std.specs.Prelude.{string_bytes}
 use Rattle.std.specs.Io.KnownBytes.{append_known}
@@ -32,8 +32,8 @@ use Rattle.calls.specs.Calls as call
 use Rattle.calls.specs.declared.response.Response.{Response}
 use Rattle.calls.specs.declared.response.Response.TheVariants as said
 
--- the replica, how many of its entries are on the shelf, what the store has and what of that survives a loss of power, where it says so,
--- and whether that is lost from sight
+-- the replica, how many of its entries are on the shelf, what the store has and what of that survives a loss of power, if it says so, and
+-- whether that is lost from sight
 pub record Desk : Type 0 where
   pub replica : Replica
   pub stored : ℕ
@@ -41,20 +41,20 @@ pub record Desk : Type 0 where
   pub synced : Option (List ℕ)
   pub is_lost : Bool
 
--- how many operations there are
+-- how many operations the history has
 abbrev pub length_of : Desk → ℕ
 length_of m = length m.replica.entries
 
 -- ---- saving
 
--- all entries are on the shelf: it has got the lines of those that weren't, and all that it has survives a loss of power
+-- all entries are on the shelf: the store got the lines of those that weren't, and all that it has survives a loss of power
 pub record IsSaved (m n : Desk) : Type 0 where
   pub stored : n.stored ≡ length_of m
   pub held : n.held ≡ append_known m.held (journal_text (entries_from m.stored m.replica.entries))
   pub synced : n.synced ≡ n.held
   pub is_lost : n.is_lost ≡ false
 
--- what is said of a change once it is saved, and what is said where it isn't: then nothing more is on the shelf, and the store has what it
+-- the response to a change once it is saved, and the response if it isn't: then nothing more is on the shelf, and the store has what it
 -- had, unless that is lost from sight
 abbrev pub SaysSaved : Response → Desk → Response → Desk → Type 0
 SaysSaved done m r n = (n.replica ≡ m.replica)
@@ -62,9 +62,9 @@ SaysSaved done m r n = (n.replica ≡ m.replica)
     ⊎ ((r ≡ said.Unsaved (length_of m) m.stored) × (n ≡ m) × (m.is_lost ≡ false))
     ⊎ ((r ≡ said.Lost) × (n.stored ≡ m.stored) × (n.is_lost ≡ true)))
 
--- ---- by what is called for
+-- ---- one for each kind of call
 
--- a command is made as the rules have it, and saved; or it is refused, and nothing has changed
+-- a command is made according to the rules, and saved; or it is refused, and nothing has changed
 abbrev pub Writes : Desk → Command → Response → Desk → Type 0
 Writes m c r n =
     ((s : Stamped) × IsMade m.replica.entries m.replica.own c s
@@ -72,13 +72,13 @@ Writes m c r n =
     ⊎ ((why : Refusal) × (r ≡ said.Refused why (length_of m)) × (n ≡ m)
     × ((why ≡ NoMemory) ⊎ (make (applied m.replica.entries) m.replica.own c ≡ Err why)))
 
--- a question is answered as the rules have it
+-- a question is answered according to the rules
 abbrev pub Asks : Desk → Asked → Response → Type 0
 Asks m q (said.Read seen reading) = (seen ≡ length_of m) × (said_by reading ≡ reading_of m.replica.entries q)
 Asks m q (said.Refused why seen) = (seen ≡ length_of m) × (reading_of m.replica.entries q ≡ AnsweredBy (TheRefused why))
 Asks m q _ = ⊥
 
--- an element is shown as the rules have it
+-- an element is shown according to the rules
 abbrev pub Looks : Desk → List Step → (depth elements : ℕ) → Response → Type 0
 Looks m steps depth elements (said.Glance seen g) = (seen ≡ length_of m)
     × ((e : Element) × (resolve (lists_of (doc (applied m.replica.entries))) steps ≡ Ok (At e))
@@ -92,24 +92,24 @@ abbrev pub Greets : Desk → Response → Type 0
 Greets m (said.Hello v) = v ≡ vector_of (applied m.replica.entries)
 Greets m _ = ⊥
 
--- what is said of an answer
+-- the response with an answer for a peer
 abbrev pub IsBundle : Answered → Response → Type 0
 IsBundle a (said.Bundle lines has_more is_beyond) =
     (string_bytes lines ≡ a.lines.items) × (has_more ≡ a.has_more) × (is_beyond ≡ a.is_beyond)
 IsBundle a _ = ⊥
 
--- the first lines of what the peer lacks of what is on the shelf, or why its hello is none
+-- the first lines of what is on the shelf and the peer lacks, or why its hello isn't one
 abbrev pub Sends : Desk → (hello : List ℕ) → Response → Type 0
 Sends m hello (said.Denied why) = hello_form hello ≡ Err why
 Sends m hello r =
     (a : Answered) × IsBundle a r × ((v : Vector) × (hello_form hello ≡ Ok v) × IsAnswer 4194304 m.replica m.stored v a)
 
--- what is said of a receipt
+-- the response to a receipt
 abbrev pub received_of : Received → Response
 received_of x = said.Received x.taken (option_map (λ r. record { count = r.count; line = r.first_line; why = r.why }) x.refused)
     (option_map (λ s. record { line = s.0; why = s.1 }) x.stopped)
 
--- a receipt of a bundle by the replica r, which is q then: what was taken is delivered, and what is ready is applied
+-- a receipt of a bundle by the replica r, which is then q: what was taken is delivered, and what is ready is applied
 pub record IsReceipt (r : Replica) (bundle : List ℕ) (x : Received) (q : Replica) : Type 0 where
   pub replica : DrainsTo (delivered r (take x.taken (readable [] bundle).operations)) (is_short x.stopped) q
   pub refused : x.refused ≡ summary (refused_lines 1 (refusals r (take x.taken (readable [] bundle).operations)))
@@ -121,7 +121,7 @@ abbrev pub TakesIn : Desk → (bundle : List ℕ) → Response → Desk → Type
 TakesIn m bundle r n = (x : Received) × (q : Replica) × IsReceipt m.replica bundle x q
     × SaysSaved (received_of x) (record m { replica = q }) r n
 
--- what a call is answered, and what it leaves
+-- the response to a call, and what it leaves
 abbrev pub Answers : Desk → call.Call → Response → Desk → Type 0
 Answers m (call.Write c) r n = Writes m c r n
 Answers m (call.Ask q) r n = Asks m q r × (n ≡ m)
@@ -132,11 +132,11 @@ Answers m (call.Receive bundle) r n = TakesIn m bundle r n
 Answers m call.Save r n = SaysSaved (said.Saved (length_of m)) m r n
 Answers m call.Status r n = (r ≡ said.Status m.replica.own (length_of m) m.stored) × (n ≡ m)
 
--- what is answered to a line that calls for this, or for nothing
+-- the response to a line that calls for this, or is no call
 abbrev pub AnswersCall : Desk → Result call.Call Refusal → Response → Desk → Type 0
 AnswersCall m (Ok c) r n = Answers m c r n
 AnswersCall m (Err why) r n = (r ≡ said.Denied why) × (n ≡ m)
 
--- what is answered to a line
+-- the response to a line
 abbrev pub AnswersLine : Desk → (line : List ℕ) → Response → Desk → Type 0
 AnswersLine m line r n = AnswersCall m (call.call_form line) r n

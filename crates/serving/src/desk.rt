@@ -1,4 +1,4 @@
-//! A document that answers calls, and keeps what came of them.
+//! A document that answers calls, and saves what came of them.
 
 ghost use Rattle.std.specs.Prelude.{◌≡◌, length, IfOk, IsUtf8, OnErr};
 ghost use Rattle.session.specs.replica.document.Documents.{asked_of};
@@ -17,8 +17,8 @@ use std::alloc::{AllocError, Global};
 use std::marker::Model;
 use store::{Shelf, Store};
 
-/// A document and the shelf that keeps it. What a response calls made, received or saved would survive a loss of power. Contracts see the
-/// replica of the definitions, how many of its entries are on the shelf, and what is known of the store.
+/// A document and the shelf that keeps it. Whatever a response says was made, received or saved would survive a loss of power. Contracts
+/// see the replica of the definitions, how many of its entries are on the shelf, and what is known of the store.
 #[derive(Drop)]
 pub struct Desk<S: Store> {
     session: Session,
@@ -47,7 +47,7 @@ impl<S: Store> Model for Desk<S> {
 }
 
 impl<S: Store> Desk<S> {
-    /// What a program says before it takes requests: the number, and how many operations there are.
+    /// What a program says before it takes requests: the number, and how many operations the history has.
     pub fn ready(&self) -> Response
         ensures { result ≡ said.Ready self.now.replica.own (length self.now.replica.entries) }
     {
@@ -57,18 +57,18 @@ impl<S: Store> Desk<S> {
         }
     }
 
-    /// The session, of which more is read than calls ask for.
+    /// The session, for reads that no call asks for.
     pub fn session(&self) -> &Session
         ensures { result.now ≡ self.now.replica }
     {
         &self.session
     }
 
-    /// The response to the call on a line, which is given without its line feed. A write and a receipt are saved before it: one append and
-    /// one sync of the store.
+    /// The response to the call on a line, which is given without its line feed. A write and a receipt are saved before the response: one
+    /// append and one sync of the store.
     ///
     /// # Errors
-    /// `AllocError` if allocation fails before anything has changed. Where it fails later the response says so: `Refused` with `NoMemory`,
+    /// `AllocError` if allocation fails before anything has changed. If it fails later, the response says so: `Refused` with `NoMemory`,
     /// the stop of a receipt, or `Unsaved`.
     pub fn answer(&mut self, alloc: Global, line: &[u8]) -> Result<Response, AllocError>
         ensures answer { IfOk result (λ r. AnswersLine self.old line.now r self.new) }
@@ -104,7 +104,7 @@ impl<S: Store> Desk<S> {
         }
     }
 
-    /// Makes what a command says, and saves it.
+    /// Makes an operation of a command, and saves it.
     fn write(&mut self, alloc: Global, command: Command) -> Response
         ensures { Writes self.old (command_of command) result self.new }
     {
@@ -115,7 +115,7 @@ impl<S: Store> Desk<S> {
         }
     }
 
-    /// Receives a bundle, and saves what of it is applied.
+    /// Receives a bundle, and saves what was applied.
     fn receive(&mut self, alloc: Global, bundle: &[u8]) -> Response
         ensures { TakesIn self.old bundle.now result self.new }
     {
@@ -155,7 +155,7 @@ impl<S: Store> Desk<S> {
         }
     }
 
-    /// What a peer lacks of what is on the shelf.
+    /// What a peer lacks, of the operations that are on the shelf.
     fn answer_hello(&self, alloc: Global, hello: &[u8]) -> Result<Response, AllocError>
         ensures { IfOk result (Sends self.now hello.now) }
     {
@@ -177,7 +177,7 @@ impl<S: Store> Desk<S> {
     }
 }
 
-/// What is said of a receipt.
+/// The response to a receipt.
 fn response_of(received: &Received) -> Response
     ensures { result ≡ received_of received.now }
 {
@@ -194,7 +194,7 @@ fn response_of(received: &Received) -> Response
     }
 }
 
-/// What is said of an answer for a peer.
+/// The response with an answer for a peer.
 fn bundle_of(answered: Answered) -> Response
     requires { IsUtf8 answered.lines.items }
     ensures { IsBundle answered result }

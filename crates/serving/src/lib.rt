@@ -1,6 +1,7 @@
-//! One document over lines: a request a line, a reply a line, and what a reply calls made, received or saved is on the shelf.
+//! One document over lines: one request per line, one reply per line, and whatever a reply says was made, received or saved is on the
+//! shelf.
 //!
-//! A `Desk` is a session and the shelf that keeps its journal; `serve` reads requests, and writes replies, until the input ends.
+//! A `Desk` is a session and the shelf that keeps its journal; `serve` reads requests and writes replies until the input ends.
 #![tactic(auto)]
 
 mod desk;
@@ -15,5 +16,5 @@ pub use memory::Memory;
 pub use starting::{NotServed, start};
 pub use talk::{Stop, serve};
 
-// Handed on from the crate below, for users of this one.
+// Re-exported from the crate below, for users of this one.
 pub use store::{FileStore, Store};

@@ -5,27 +5,27 @@ ghost use Rattle.std.specs.Prelude.{◌≤◌, ◌<◌, IfOk, vec_len};
 use std::io;
 use std::io::{BufRead, Read};
 
-/// The most bytes that a request's line has, without its line feed.
+/// The most bytes that a request's line may have, without its line feed.
 pub const MOST_LINE: usize = 33_554_432;
 
 /// What was found in the input.
 #[derive(Clone, Copy, Debug, PartialEq, Eq)]
 pub enum Found {
-    /// A line, which is there without its line feed.
+    /// A line, now in the buffer without its line feed.
     Line,
-    /// A line of more bytes than `MOST_LINE`, which was passed over.
+    /// A line of more bytes than the limit, which was skipped.
     TooLong,
-    /// Bytes without a line feed, behind which the input ends.
+    /// Bytes without a line feed, after which the input ends.
     Cut,
     /// The end.
     End,
 }
 
-/// Takes the next line of the input into `line`, in place of what it had, if it has at most so many bytes. One of more is passed over, in
-/// no more memory.
+/// Reads the next line of the input into `line`, replacing its content, if it has at most `most` bytes. A longer one is skipped, without
+/// using more memory.
 ///
 /// # Errors
-/// As the input has them, `OutOfMemory` if allocation fails.
+/// Those of the input, and `OutOfMemory` if allocation fails.
 pub fn next_line<B: BufRead>(input: &mut B, most: usize, line: &mut Vec<u8>) -> io::Result<Found>
     requires { most < 4294967296 }
     ensures { IfOk result (λ _. vec_len line.new ≤ most) }

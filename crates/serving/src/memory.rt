@@ -3,7 +3,7 @@
 use std::alloc::Global;
 use store::{Store, StoreFailed};
 
-/// The store of a document that lives in memory alone: what is put into it is gone. Contracts know none of its bytes.
+/// The store of a document that lives in memory alone: it discards its bytes. Contracts know none of them.
 #[derive(Clone, Copy, Debug)]
 pub struct Memory;
 

@@ -10,18 +10,18 @@ use store::{Fault, Journal, Store, draw_number};
 #[derive(Clone, Copy, Debug, PartialEq, Eq)]
 pub enum NotServed {
     NoMemory,
-    /// The store can't be read, cut or synced, or no number can be drawn.
+    /// The store can't be read, cut or synced, or no random number can be drawn.
     CannotOpen,
-    /// Its own commands are another number's: this one's.
+    /// Its own commands are of another number: this one.
     OtherNumber(ReplicaId),
-    /// A line, counted from 1, doesn't fit: it was changed, or is no journal's.
+    /// A line, counted from 1, doesn't fit: the store was changed, or doesn't hold a journal.
     Damaged(u64),
 }
 
-/// A desk on a store, as the replica of this number if one is given, else of the store's own commands, else of one that is drawn.
+/// A desk on a store, as the replica of this number if one is given, else of the number of the store's own commands, else of a random one.
 ///
 /// # Errors
-/// As `NotServed` has them. The store is let go of.
+/// As `NotServed` says. The store is dropped.
 pub fn start<R: RandomSource, S: Store + Drop>(
     rt: &R,
     alloc: Global,
@@ -39,7 +39,7 @@ pub fn start<R: RandomSource, S: Store + Drop>(
     }
 }
 
-/// The number of the replica that goes on from a journal.
+/// The number of the replica that resumes from a journal.
 fn own_number<R: RandomSource, S: Store>(
     rt: &R,
     alloc: Global,
@@ -64,7 +64,7 @@ fn own_number<R: RandomSource, S: Store>(
     Ok(own)
 }
 
-/// A number that is drawn.
+/// A random number.
 fn drawn<R: RandomSource>(rt: &R) -> Result<ReplicaId, NotServed> {
     match draw_number(rt) {
         Ok(own) => Ok(own),
@@ -72,7 +72,7 @@ fn drawn<R: RandomSource>(rt: &R) -> Result<ReplicaId, NotServed> {
     }
 }
 
-/// Why a document can't be served, as a store's fault has it.
+/// Why a document can't be served, given a fault of its store.
 fn reason(fault: &Fault) -> NotServed {
     match fault {
         Fault::Refused(Refusal::NoMemory) | Fault::Held => NotServed::NoMemory,

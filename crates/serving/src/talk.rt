@@ -9,11 +9,11 @@ use std::io::{BufRead, ErrorKind, Write};
 use std::sync::Wait;
 use store::Store;
 
-/// Why a document is served no longer, before its input ended.
+/// Why serving a document stopped before its input ended.
 #[derive(Clone, Copy, Debug, PartialEq, Eq)]
 pub enum Stop {
     NoMemory,
-    /// Nobody knows what the store has, which was said.
+    /// It isn't known what the store has, and the response said so.
     Lost,
     /// The input can't be read.
     NotRead,
@@ -27,11 +27,11 @@ impl From<AllocError> for Stop {
     }
 }
 
-/// Says that the document is ready, and then responds to each line of the input, until it ends. A line is read once the response before it
-/// was written. Waits for input.
+/// Says that the document is ready, and then responds to each line of the input until it ends. A line is read only once the response to the
+/// one before was written. Waits for input.
 ///
 /// # Errors
-/// As `Stop` has them. What a response said before is so.
+/// As `Stop` says. What earlier responses said still holds.
 pub fn serve<S: Store, B: BufRead, W: Write>(
     rt: &impl Wait,
     alloc: Global,
@@ -53,7 +53,7 @@ pub fn serve<S: Store, B: BufRead, W: Write>(
     Ok(())
 }
 
-/// The response to the next line of the input, or `None` at its end. A line that is too long, or cut off, is none.
+/// The response to the next line of the input, or `None` at its end. A line that is too long or cut off isn't a call.
 fn respond<S: Store, B: BufRead>(
     alloc: Global,
     desk: &mut Desk<S>,
@@ -69,7 +69,7 @@ fn respond<S: Store, B: BufRead>(
     }
 }
 
-/// Writes a response, with its line feed, at once.
+/// Writes a response with its line feed, and flushes it.
 fn say<W: Write>(alloc: Global, out: &mut W, response: &Response) -> Result<(), Stop> {
     let line = write_response(alloc, response)?;
     if out.write_all(&line).is_err() || out.flush().is_err() {

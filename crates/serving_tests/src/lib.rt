@@ -1,5 +1,5 @@
-//! The tests of `serving`, through its public functions: what a program is answered over lines, also where its disk fails and its input is
-//! cut off.
+//! The tests of `serving`, through its public functions: the replies of a program over lines, also when its disk fails or its input is cut
+//! off.
 #![tactic(auto)]
 
 #[cfg(test)]

@@ -15,8 +15,7 @@ use store::Journal;
 /// The number that is served.
 const OWN: u32 = 7;
 
-/// Serves the document that the disk has to this input. Returns what was replied and how it ended, or `None` where it didn't open, and the
-/// disk.
+/// Serves the document that the disk has to this input. Returns the replies and how it ended, or `None` if it didn't open, and the disk.
 fn served<R: Wait>(
     rt: &R,
     alloc: Global,

@@ -43,7 +43,7 @@ taken_few r s = by (check_fault r.members (stamped_entries r.entries) s)
     by None = filter_few _ r.waiting
     by (Some why) = filter_few _ r.waiting
 
--- a drain lets no more wait
+-- after a drain no more operations wait than before
 waits_few : (n : ℕ) (r : Replica) → length (drain_for n r).waiting ≤ length r.waiting
 waits_few zero r = omega arith
 waits_few (suc n) r = at_full (λ m. waits_few n m) (is_full r.entries)

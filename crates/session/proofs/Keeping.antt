@@ -1,4 +1,4 @@
--- What holds of a session is kept by what it does.
+-- What a session does preserves its invariant.
 use Rattle.std.proofs.Common.{◌≡◌, ◌≤◌, ℕ, zero, suc, Bool, true, false, cond, nat_le, List, [], length, Option, Some, None}
 use Rattle.std.proofs.Common.{Result}
 use Rattle.std.specs.Prelude.{OnErr, OnOk}
@@ -27,7 +27,7 @@ use Rattle.session.specs.Sessions.{IsSession}
 has_place : (G : List Entry) → is_full G ≡ false → suc (length G) ≤ most_entries
 has_place G e = grind (arith, tests, e)
 
--- no turn of a drain passes it
+-- no turn of a drain exceeds it
 few_turns : (n : ℕ) (r : Replica) → length r.entries ≤ most_entries → length (drain_for n r).entries ≤ most_entries
 few_turns zero r few = few
 few_turns (suc n) r few = at_full (λ m k. few_turns n m k) (is_full r.entries) refl

@@ -1,4 +1,4 @@
--- What holds of a session is kept, and what it writes, receives, answers and brings back.
+-- The invariant of a session is preserved, and what it writes, receives, answers and replays.
 pub mod Keeping
 pub mod Writing
 pub mod Draining

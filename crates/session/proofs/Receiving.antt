@@ -1,4 +1,4 @@
--- What a session has received of a text, and why it stops.
+-- What a session has received of a text, and why it stopped.
 use Rattle.std.proofs.Common.{◌≡◌, ◌≢◌, ◌≤◌, ◌<◌, ◌⊎◌, inl, inr, ℕ, suc, ◌+◌, Bool, true, false, List, [], ◌∷◌, ◌++◌, length, take}
 use Rattle.std.proofs.Common.{Option}
 use Rattle.std.proofs.Common.{Some, None, MatchOption, Ok, Err, refl, sym, ap, ◌∙◌, subst, append-nil, append_assoc, arith}
@@ -44,7 +44,7 @@ summary-last (x ∷ xs) n why =
     let count : suc (length (xs ++ (n, why) ∷ [])) ≡ suc (length xs) + 1 = omega (arith, long) in
     λ i. Some (record { count = count i; first_line = x.0; why = x.1 })
 
--- the refused ones of these answers and one more
+-- the refused ones among these answers, with one more
 noted-last : (n line : ℕ) (xs : List (Option Refusal)) (x : Option Refusal) → line ≡ n + length xs
     → (front : List (ℕ × Refusal))
     → summary (front ++ refused_lines n (xs ++ x ∷ [])) ≡ with_refusal (summary (front ++ refused_lines n xs)) line x
@@ -83,7 +83,7 @@ count_of : (xs : List (ℕ × Refusal)) (bound : ℕ) → length xs ≤ bound �
 count_of [] bound few = tt
 count_of (x ∷ xs) bound few = few
 
--- and one more fits below what they are below
+-- and one more stays within the bound that they are below
 pub one_more_fits : (n bound : ℕ) (refused : Option Refused) → n + 1 < bound → MatchOption refused ⊤ (λ r. r.count ≤ n)
     → MatchOption refused ⊤ (λ r. r.count + 1 < bound)
 one_more_fits n bound None below counts = tt
@@ -98,7 +98,8 @@ line_taken rest line left first =
 
 -- ---- what was received
 
--- q is r after it received the first n operations of the text, and these were refused; the rest isn't read yet, and stands beside the base
+-- q is r after it received the first n operations of the text, of which these were refused; the rest isn't read yet, and is relative to the
+-- base
 pub record HasReceived (r : Replica) (text : List ℕ) (q : Replica) (base : Vector) (rest : List ℕ) (n : ℕ)
     (refused : Option Refused) : Type 0 where
   pub ops : List Stamped
@@ -107,7 +108,7 @@ pub record HasReceived (r : Replica) (text : List ℕ) (q : Replica) (base : Vec
   pub refused_are : refused ≡ summary (refused_lines 1 (refusals r ops))
   pub read : after ops (readable base rest) ≡ readable [] text
 
--- a drain that ended late made turns, as one that ended early
+-- a drain that ran to its end took some turns, as one that ended early did
 pub drained_either : (b : Bool) (r q : Replica) → q ≡ counted (drain r) → DrainsTo r b q
 drained_either true r q is = (length r.waiting, is)
 drained_either false r q is = is
@@ -134,7 +135,7 @@ module _ (r : Replica) (text : List ℕ) where
     pub operations_are : take n (readable [] text).operations ≡ h.ops
     operations_are = first_operations h.ops base rest n h.count h.read
 
-    -- what a receipt says that stops or ends here
+    -- what a receipt that stops or ends here says
     pub drains : (b : Bool) → DrainsTo (delivered r (take n (readable [] text).operations)) b q
     drains b = subst (λ (ops : List Stamped). DrainsTo (delivered r ops) b q) (sym operations_are)
         (drained_either b (delivered r h.ops) q h.replica)

@@ -1,4 +1,4 @@
--- What is brought back of a line.
+-- What a line brings back.
 use Rattle.std.proofs.Common.{◌≡◌, ◌∙◌, ◌∷◌, ◌++◌, ◌==◌, ◌&&◌, [], ℕ, Bool, true, false, not, List, length, map}
 use Rattle.std.proofs.Common.{drop, reverse, refl, sym, ap, arith}
 use Rattle.std.proofs.Math.Seq.{drop-append_seam}
@@ -12,7 +12,7 @@ use Rattle.semantics.specs.Stamped.{Stamped}
 use Rattle.semantics.specs.WorldHistory.{BeginsWith}
 use Rattle.session.specs.Replays.{HasRecord}
 
--- what stands behind a beginning
+-- what comes after a beginning
 behind : (more F : List Entry) → entries_from (length F) (more ++ F) ≡ reverse more
 behind more F =
     (λ i. drop (sym (length-reverse F) i) (reverse-append more F i)) ∙ drop-append_seam (reverse F) (reverse more)
@@ -21,7 +21,7 @@ behind more F =
 pub one_behind : (e : Entry) (F : List Entry) → entries_from (length F) (e ∷ F) ≡ e ∷ []
 one_behind e F = behind (e ∷ []) F
 
--- where nothing stands behind it, it is all
+-- if nothing comes after it, it is everything
 pub none_behind : (F G : List Entry) → BeginsWith G F → entries_from (length F) G ≡ [] → G ≡ F
 none_behind F G b none = by b.0 b.1
   where

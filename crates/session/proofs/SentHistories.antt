@@ -1,4 +1,4 @@
--- A line can carry all that stands in a history of few operations: its counters are few.
+-- A line can carry everything in a history of few operations: its counters are small.
 use Rattle.std.proofs.Common.{◌≡◌, inl, inr, ℕ, ◌<◌, ◌≤◌, true, nat_le, List, [], ◌∷◌, ◌++◌, length, map, refl, sym}
 use Rattle.std.proofs.Common.{subst, arith}
 use Rattle.std.specs.List.{All, list_all}

@@ -19,7 +19,7 @@ lengthened-whole : (b : ℕ) (lines : List (List ℕ)) (tail : List ℕ) → (le
 lengthened-whole b [] tail h = absurd (let z : ⊥ = cc in z)
 lengthened-whole b (l ∷ ls) tail h = h
 
--- whole lines, and a text behind them
+-- whole lines, and a text after them
 cut-append : (a b : List ℕ) → (cut a).tail ≡ [] → cut (a ++ b) ≡ joined (cut a) (cut b)
 cut-append [] b h = refl
 cut-append (x ∷ a) b h = by (cut-append a b) (x == 10) h
@@ -34,7 +34,7 @@ cut-append (x ∷ a) b h = by (cut-append a b) (x == 10) h
         ap (ended false) (rest (lengthened-whole x (cut a).lines (cut a).tail e))
         ∙ lengthened-joined x (cut a).lines (cut a).tail (cut b) e
 
--- the first n lines of the text were taken, which have so many bytes, and the rest wasn't yet
+-- the first n lines of the text were taken, which have this many bytes, and the rest not yet
 pub record HasTaken (text rest : List ℕ) (n bytes : ℕ) : Type 0 where
   pub gone : List ℕ
   pub split : gone ++ rest ≡ text
@@ -89,7 +89,7 @@ taken_next text rest line left n bytes next more h first counted is =
     ∙ ap (λ (c : Cut). c.lines) (more_lines text rest line left n bytes h first)
     ∙ ap (λ (ls : List (List ℕ)). ls ++ line ∷ []) (sym (first_lines text rest n bytes h))
 
--- so many bytes are these lines
+-- this many bytes are these lines
 pub taken_bytes : (text rest : List ℕ) (n bytes : ℕ) → HasTaken text rest n bytes → AreFirstLines text n bytes
 taken_bytes text rest n bytes h =
     ap cut (ap (take bytes) (sym h.split) ∙ take_at h.gone rest bytes h.gone_is)

@@ -12,13 +12,13 @@ use Rattle.session.specs.declared.session.answering.Answered.{Answered}
 abbrev pub IsFirstLines : List Stamped → ℕ → List ℕ → Type 0
 IsFirstLines ss n text = (n ≤ length ss) × (text ≡ bundle_text [] (take n ss))
 
--- they are as many as fit into so many bytes, and one if there is one: they fit or there is one alone, and one more wouldn't fit
+-- as many operations as fit into that many bytes, and one if there is one: either they fit or there is one alone, and one more wouldn't fit
 pub record IsCutAt (most : ℕ) (ss : List Stamped) (n : ℕ) (text : List ℕ) : Type 0 where
   pub first : IsFirstLines ss n text
   pub fits : (length text ≤ most) ⊎ (n ≡ 1)
   pub full : n < length ss → (1 ≤ n) × (most < length (bundle_text [] (take (n + 1) ss)))
 
--- what is answered to the vector v, of the first entries of r: the first lines of what v lacks, which are read back as just that
+-- the answer to the vector v, from the first entries of r: the first lines of what v lacks, which are read back as just that
 pub record IsAnswer (most : ℕ) (r : Replica) (stored : ℕ) (v : Vector) (a : Answered) : Type 0 where
   pub count : ℕ
   pub cut : IsCutAt most (lacked_of (first_entries stored r.entries) v) count a.lines.items

@@ -1,4 +1,4 @@
--- What a session brings back of a journal.
+-- What a session replays of a journal.
 use Rattle.std.specs.Prelude.{◌≡◌, ℕ, Bool, true, false, List, [], ◌∷◌, length, map, take}
 use Rattle.ids.specs.declared.refusal.Refusal.TheVariants.{NoMemory}
 use Rattle.semantics.specs.Entries.{Entry}
@@ -8,7 +8,7 @@ use Rattle.records.specs.declared.replaying.Unfit.{Unfit}
 use Rattle.records.specs.declared.replaying.Unfit.TheVariants.{Refused, NotAlone}
 use Rattle.records.specs.wire.Lines.{cut}
 
--- whether the entry of a line that wasn't taken may stand all the same
+-- whether the entry of a line that wasn't taken may be in the history all the same
 abbrev pub may_stand : Unfit → Bool
 may_stand (Refused NoMemory) = true
 may_stand NotAlone = true
@@ -18,6 +18,6 @@ may_stand _ = false
 abbrev pub HasRecord : List Entry → Recorded → List Entry → Type 0
 HasRecord F x G = BeginsWith G F × (map recorded (entries_from (length F) G) ≡ x ∷ [])
 
--- so many bytes are the first n lines of a text, each with its line feed
+-- this many bytes are the first n lines of a text, each with its line feed
 abbrev pub AreFirstLines : List ℕ → (n bytes : ℕ) → Type 0
 AreFirstLines text n bytes = cut (take bytes text) ≡ record { lines = take n (cut text).lines; tail = [] }

@@ -1,4 +1,4 @@
--- What holds of a session between its calls.
+-- The invariant of a session, between its calls.
 use Rattle.std.specs.Prelude.{◌≡◌, ◌≤◌, ℕ, length}
 use Rattle.semantics.specs.Entries.{IsAbove}
 use Rattle.semantics.specs.Limits.{most_entries}

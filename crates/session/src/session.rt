@@ -1,4 +1,4 @@
-//! One document of one replica, with what is done with it.
+//! One document of one replica, and what can be done with it.
 
 ghost use Rattle.std.specs.Prelude.{◌≡◌, ◌⊎◌, ◌↔◌, ℕ, [], ◌∷◌, Ok, Err, IfOk, IfErr, OnErr, OnOk, MatchResult, length};
 ghost use Rattle.ids.specs.declared.refusal.Refusal.TheVariants.{BadConfig, NoMemory};
@@ -50,7 +50,7 @@ impl Model for Session {
 }
 
 impl Session {
-    /// A session with this number and an empty history. The only member is the number itself: others join by their first operation.
+    /// A session with this number and an empty history. The only member is the number itself; others join with their first operation.
     ///
     /// # Errors
     /// `BadConfig` for 0, else `NoMemory` if allocation fails.
@@ -81,7 +81,7 @@ impl Session {
         self.replica.history_len()
     }
 
-    /// The document of the history, of which questions and glances are asked.
+    /// The document of the history, for questions and glances.
     pub fn document(&self) -> &Document
         ensures members { result.now.members ≡ self.now.members }
         ensures entries { result.now.entries ≡ self.now.entries }
@@ -93,8 +93,8 @@ impl Session {
     /// Makes an operation of a command, and appends it. Returns its id; its position is the length of the history before.
     ///
     /// # Errors
-    /// In this order: `HistoryFull`; the refusal of the expression; `NotInList` for an insert that would stand neither at a head nor at
-    /// an item, `AtHead` for another command at a head. Or `NoMemory` if allocation fails. Nothing has changed then.
+    /// In this order: `HistoryFull`; the refusal of the expression; `NotInList` for an insert whose place is neither a head nor an item,
+    /// `AtHead` for any other command at a head. Or `NoMemory` if allocation fails. Nothing has changed then.
     pub fn write(&mut self, alloc: Global, command: Command) -> Result<OpId, Refusal>
         ensures made { IfOk result
             (λ a. (s : Stamped) × IsMade self.old.entries self.old.own (command_of command) s × (s.id ≡ a)
@@ -127,10 +127,10 @@ impl Session {
         self.replica.deliver(op)
     }
 
-    /// Appends or drops all that is ready, and all that becomes ready by that, as `drain`.
+    /// Appends or drops each operation that is ready, and each that becomes ready by that, as `drain`.
     ///
     /// # Errors
-    /// `AllocError` if allocation fails. The drain has ended early then, and another goes on with it.
+    /// `AllocError` if allocation fails. The drain has then ended early, and the next one goes on with it.
     fn settle(&mut self, alloc: Global) -> Result<(), AllocError>
         ensures settled { OnOk result (self.new ≡ settled self.old) }
         ensures partly { (n : ℕ) × (self.new ≡ counted (drain_for n self.old)) }
@@ -153,17 +153,17 @@ fn append(replica: &mut Replica, command: Shared<Command>, op: Shared<Op>)
     replica.commit_own(0, serial, command, op);
 }
 
-/// Appends or drops all that is ready, and all that becomes ready by that, the smallest id first, until the history is full. A search of
-/// the inbox for each of them.
+/// Appends or drops each operation that is ready, and each that becomes ready by that, the smallest id first, until the history is full.
+/// Costs a search of the inbox for each.
 ///
 /// # Errors
-/// `AllocError` if allocation fails. The drain has ended early then, and another goes on with it.
+/// `AllocError` if allocation fails. The drain has then ended early, and the next one goes on with it.
 fn drain(replica: &mut Replica, alloc: Global) -> Result<(), AllocError>
     ensures running { IsRunning (replica_of replica.old) }
     ensures drained { OnOk result (replica_of replica.new ≡ counted (drain (replica_of replica.old))) }
     ensures partly { (n : ℕ) × (replica_of replica.new ≡ counted (drain_for n (replica_of replica.old))) }
 {
-    // What holds of a replica, and that it counts no more than it can.
+    // The replica's invariant, and that its length fits into a `usize`.
     prove!(replica.document().len() <= usize::MAX);
     prove!(replica.dropped() <= u64::MAX);
     while let Some(op) = replica.next_ready(alloc)? {

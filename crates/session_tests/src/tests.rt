@@ -1,4 +1,4 @@
-//! Sessions that write, exchange and go on from their journals, as tables that small functions play.
+//! Sessions that write, exchange and resume from their journals, as tables that small functions play.
 
 mod answers;
 mod exchanges;

@@ -17,11 +17,10 @@ use std::sync::atomic::{AtomicBool, Ordering};
 use std::thread::{Parker, Threads, join, yield_now};
 use std::time::Duration;
 
-/// How long the writer sleeps at most where nobody wakes it, in milliseconds. After a failed allocation only a step goes on with what
-/// waits.
+/// How long the writer sleeps at most if nobody wakes it, in milliseconds. After a failed allocation, only a step goes on with what waits.
 const NAP: u64 = 50;
 
-/// What the threads tell one another beside the engine.
+/// What the threads share besides the engine.
 #[derive(Drop)]
 struct Signals {
     /// The writer sleeps on it, and clients wake it.
@@ -87,8 +86,8 @@ fn shop_with<N: EngineName + Send + Sync, R: Threads + Wait + Sync>(
     together(rt, alloc, writer, &mut alice[0], &mut bob[0], reader)
 }
 
-/// Alice and Bob write, the writer steps, and the reader reads, each in a thread. The last two end after the first two, which also
-/// end where they are refused.
+/// Alice and Bob write, the writer steps, and the reader reads, each in a thread. The last two end after the first two, which also end if
+/// they are refused.
 fn together<N: EngineName + Send + Sync, R: Threads + Wait + Sync>(
     rt: &R,
     alloc: Global,
@@ -139,7 +138,7 @@ fn together<N: EngineName + Send + Sync, R: Threads + Wait + Sync>(
     read
 }
 
-/// Steps until the clients have ended and nothing that they submitted is left, and sleeps while there is nothing to do.
+/// Steps until the clients have ended and everything that they submitted is handled, and sleeps while there is nothing to do.
 fn step_until<N: EngineName, R: Wait>(
     rt: &R,
     alloc: Global,
@@ -156,7 +155,7 @@ fn step_until<N: EngineName, R: Wait>(
     }
 }
 
-/// Writes down what to buy, one thing after the other, each once the one before is answered.
+/// Writes down what to buy, one thing after another, each once the one before is answered.
 fn write<N: EngineName, R: Wait>(
     rt: &R,
     alloc: Global,
@@ -171,13 +170,13 @@ fn write<N: EngineName, R: Wait>(
     Ok(())
 }
 
-/// The command that writes how much to buy of it.
+/// The command that writes how much of it to buy.
 fn wish(alloc: Global, what: &str, how_much: &str) -> Result<Command, Refusal> {
     let place = Expr::root(alloc).get(alloc, what)?;
     Ok(Command::Assign(place, Val::text(alloc, how_much)?))
 }
 
-/// Submits the command until it is answered: again where the queue is full, or where the reply is `NoMemory`. `NoMemory` of the call
+/// Submits the command until it is answered: it tries again if the queue is full, or if the reply is `NoMemory`. `NoMemory` of the call
 /// itself is returned.
 fn write_one<N: EngineName, R: Wait>(
     rt: &R,
@@ -218,8 +217,8 @@ fn reply_to<N: EngineName, R: Wait>(
     unreachable!()
 }
 
-/// Reads the keys of the document again and again, the last time once the clients have ended. Returns how many entries were seen then.
-/// No reading waits for the writer or for a client.
+/// Reads the keys of the document repeatedly, the last time once the clients have ended. Returns how many entries were then seen. No
+/// reading waits for the writer or for a client.
 fn read_until<N: EngineName, R: Wait>(
     rt: &R,
     alloc: Global,

@@ -1,4 +1,4 @@
--- A text up to its last line feed, and what is behind it.
+-- A text up to its last line feed, and what is after it.
 use Rattle.std.proofs.Common.{◌≡◌, ◌≢◌, ◌≤◌, ◌==◌, ◌+◌, ℕ, zero, suc, Bool, true, false, List, [], ◌∷◌, ◌++◌, length, take, drop, refl}
 use Rattle.std.proofs.Common.{sym, ap, ◌∙◌, add-one, arith}
 use Rattle.std.proofs.Math.ListN.{get_or}
@@ -11,7 +11,7 @@ use Rattle.records.specs.wire.Lines.{Cut, HasNoEnd, cut}
 use Rattle.records.proofs.wire.CutLines.{cut-no_end}
 use Rattle.store.specs.WholeLines.{AreWhole}
 
--- the lines of a text that ends in a line feed: the same whatever without one is behind it
+-- the lines of a text that ends in a line feed are the same whatever follows it without one
 record Lined (xs : List ℕ) : Type 0 where
   first : List ℕ
   more : List (List ℕ)
@@ -25,7 +25,7 @@ lined : (xs : List ℕ) → Lined xs
 lined [] = record { first = []; more = []; is = λ ys none. rw (cut-no_end ys none) refl }
 lined (b ∷ xs) = lined_more b xs (lined xs) (b == 10) refl
 
--- no line feed stands from place i on
+-- there is no line feed from index i on
 none_behind : (text : List ℕ) (i : ℕ) → Nowhere (Passes (is_byte 10) text) i (length text) → HasNoEnd (drop i text)
 none_behind text i none = All-from_get_or (λ b. b ≢ 10) (drop i text) 0
     (λ k within e.
@@ -43,7 +43,7 @@ whole-none text none =
       tail = ap (λ (c : Cut). c.tail) (sym all);
     }
 
--- the last line feed stands at this place
+-- the last line feed is at this index
 pub whole-upto : (text : List ℕ) (last : ℕ) → NoneAfter (Passes (is_byte 10) text) 0 (length text) last → Passes (is_byte 10) text last
     → AreWhole (last + 1) text
 whole-upto text last after at =

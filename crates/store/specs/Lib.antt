@@ -1,3 +1,3 @@
--- What a store has, and what stands in the journal that it keeps.
+-- The bytes of a store, and of the journal that it keeps.
 pub mod Shelves
 pub mod WholeLines

@@ -1,4 +1,4 @@
-//! Why a call that stores fails.
+//! Why a call that stores something fails.
 
 use crate::store::StoreFailed;
 use ids::Refusal;
@@ -7,20 +7,20 @@ use std::alloc::AllocError;
 use std::fmt;
 use thiserror::Error;
 
-/// Why a call that stores fails.
+/// Why a call that stores something fails.
 #[derive(Clone, Copy, Debug, PartialEq, Eq, Error)]
 pub enum Fault {
-    /// The engine refuses it, and the document has nothing of it.
+    /// The engine refuses it, and nothing of it is in the document.
     Refused(Refusal),
-    /// Memory was short when it was to be published, or written down. The next call that stores publishes and stores it: don't submit it
-    /// again.
+    /// An allocation failed when it was to be published or written down. The next call that stores something publishes and stores it: don't
+    /// submit it again.
     Held,
-    /// A line of the journal, counted from 1, doesn't fit: the file was changed, or is none of this kind. The store is as it was.
+    /// A line of the journal, counted from 1, doesn't fit: the file was changed, or it isn't a journal. The store is unchanged.
     Damaged { line: u64, why: Unfit },
-    /// The store failed, and has what it had. What was written is in the document, and is stored by the next call that stores: don't submit
-    /// it again.
+    /// The store failed, and has what it had. What was written is in the document, and the next call that stores something stores it: don't
+    /// submit it again.
     Store(StoreFailed),
-    /// A sync or a cut failed, so nobody knows what the store has. Nothing more is stored: end, and open the store anew.
+    /// A sync or a cut failed, so it isn't known what the store has. Nothing more is stored: stop, and open the store again.
     MustStartAgain,
 }
 
@@ -70,7 +70,7 @@ impl From<StoreFailed> for Fault {
     }
 }
 
-/// A store whose document didn't open, and why.
+/// A store whose document couldn't be opened, and why.
 #[derive(Debug, Drop)]
 pub struct Unopened<S> {
     pub store: S,

@@ -6,15 +6,15 @@ use std::fs::{File, Files, OpenFile, OpenOptions};
 use std::io::{Read, Seek, SeekFrom, Write};
 use std::path::Path;
 
-/// A store on a file of its own, which is open as long as this is there. See to it that one program has the file: `try_lock` locks a file
-/// of the system.
+/// A store on a file of its own, which stays open as long as this value exists. Make sure that only one program has the file: `try_lock`
+/// locks a file of the system.
 #[derive(Drop)]
 pub struct FileStore<F> {
     file: F,
 }
 
 impl<F: Read + Write + Seek + OpenFile> FileStore<F> {
-    /// Opens the file of this path, and makes it where there is none. Its folder is synced, so that the file itself survives a loss of
+    /// Opens the file at this path, and creates it if there is none. Its folder is synced, so that the file itself survives a loss of
     /// power.
     ///
     /// # Errors
@@ -31,10 +31,10 @@ impl<F: Read + Write + Seek + OpenFile> FileStore<F> {
 }
 
 impl FileStore<File> {
-    /// Locks the file until it is closed, so that no other program which locks it goes on from it.
+    /// Locks the file until it is closed, so that no other program that takes this lock resumes from it.
     ///
     /// # Errors
-    /// `StoreFailed`, of the kind `WouldBlock` if another program has it.
+    /// `StoreFailed`, with the kind `WouldBlock` if another program has locked it.
     pub fn try_lock(&self) -> Result<(), StoreFailed> {
         match self.file.try_lock() {
             Ok(()) => Ok(()),
@@ -67,7 +67,7 @@ impl<F: Read + Write + Seek + OpenFile> Store for FileStore<F> {
     }
 }
 
-/// Syncs the folder in which this path is.
+/// Syncs the folder of this path.
 fn sync_folder<R: Files>(rt: &R, path: &str) -> Result<(), StoreFailed> {
     let folder = match Path::new(path).parent() {
         Some(folder) if !folder.as_str().is_empty() => folder.as_str(),

@@ -1,7 +1,7 @@
-//! What keeps the lines of a journal, so that they survive a loss of power.
+//! Storage for the lines of a journal, which makes them survive a loss of power.
 //!
-//! A `Store` is a place for bytes, and `FileStore` one on a file. A `Journal` is what a store had when it was read. On a `Shelf` lines are
-//! put behind it: one that was put is there at the next start.
+//! A `Store` is a place for bytes, and a `FileStore` is one on a file. A `Journal` is what a store had when it was read. A `Shelf` appends
+//! lines to a store: a line that was appended is there at the next start.
 #![tactic(auto)]
 
 mod fault;

@@ -1,11 +1,11 @@
-//! The number of a device that has written nothing yet.
+//! The number of a device that hasn't written yet.
 
 use crate::fault::Fault;
 use crate::store::StoreFailed;
 use ids::{Refusal, ReplicaId};
 use std::random::RandomSource;
 
-/// A number that was drawn: for a device whose journal has no own command yet.
+/// A random number, for a device whose journal has no own command yet.
 ///
 /// # Errors
 /// `Store` if the system gives no random bytes.
@@ -14,7 +14,7 @@ pub fn draw_number(rt: &impl RandomSource) -> Result<ReplicaId, Fault> {
     if let Err(error) = rt.fill_bytes(&mut bytes) {
         return Err(Fault::Store(StoreFailed::from(error)));
     }
-    // 0 is no number.
+    // 0 isn't a number.
     let number = u32::from_le_bytes(bytes).max(1);
     Ok(ReplicaId::new(number).ok_or(Refusal::UnknownReplica)?)
 }

@@ -14,7 +14,7 @@ use memchr::memrchr;
 use records::{Lines, Recorded, Unfit, read_record};
 use std::alloc::Global;
 
-/// How each line of a journal begins.
+/// The beginning of each line of a journal.
 const START: &[u8] = b"[\"o";
 
 /// A store and what it had when it was read.
@@ -26,7 +26,7 @@ pub struct Journal<S: Store> {
 }
 
 impl<S: Store> Journal<S> {
-    /// Reads a store whole. It changes nothing.
+    /// Reads the whole store, without changing it.
     ///
     /// # Errors
     /// `Store` if it can't be read.
@@ -43,11 +43,10 @@ impl<S: Store> Journal<S> {
         }
     }
 
-    /// The number whose own commands it has: an engine that goes on from it has this number. `None` where it has no own command: then none
-    /// was handed out, and a number that was drawn anew will do. Reads the lines up to the first own command.
+    /// The number whose own commands it has: an engine that goes on from it has this number. `None` if it has no own command: then none was
+    /// handed out, and a new random number will do. Reads the lines up to the first own command.
     ///
-    /// # Errors
-    /// `Damaged` if a line before it isn't one of a journal; `Refused` with `NoMemory`.
+    /// `Damaged` if a line before it isn't a line of a journal; `Refused` with `NoMemory` if allocation fails.
     pub fn own(&self, alloc: Global) -> Result<Option<ReplicaId>, Fault>
         ensures { IfOk result (λ own. own ≡ first_own (cut self.now.bytes.items).lines) }
     {
@@ -72,7 +71,7 @@ impl<S: Store> Journal<S> {
     }
 }
 
-/// The number of the own command on a line, if it is one.
+/// The number of the own command on a line, if it has one.
 fn own_on(alloc: Global, line: &[u8]) -> Result<Option<ReplicaId>, Refusal>
     ensures { IfOk result (λ own. own ≡ own_on (record_form line.now)) }
 {
@@ -91,7 +90,7 @@ pub fn unfit(line: u64, why: Unfit) -> Fault {
     }
 }
 
-/// How many bytes the whole lines have. What is behind them was being written when the power went, and wasn't called saved.
+/// How many bytes the whole lines have. What is after them was being written when the power went, and was never reported as saved.
 pub fn whole_len(bytes: &[u8]) -> usize
     ensures { AreWhole result bytes.now }
 {
@@ -101,7 +100,7 @@ pub fn whole_len(bytes: &[u8]) -> usize
     }
 }
 
-/// Whether this is the beginning of a line of a journal. A file that ends in something else isn't one.
+/// Whether this is the beginning of a line of a journal. A file that ends in something else isn't a journal.
 pub fn is_begun(rest: &[u8]) -> bool {
     rest.starts_with(START) || START.starts_with(rest)
 }

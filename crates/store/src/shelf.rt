@@ -1,4 +1,4 @@
-//! A store, and how far what it has is known.
+//! A store, and how much is known of what it has.
 
 ghost use Rattle.std.specs.Prelude.{◌≡◌, ◌≢◌, ◌≤◌, ◌⊎◌, false, true, length, Err, IfErr, IfOk, IfSome, OnOk, MatchResult};
 ghost use Rattle.std.specs.Io.KnownBytes.{append_known};
@@ -12,8 +12,8 @@ use crate::store::{Store, StoreFailed};
 use std::io::ErrorKind;
 use std::marker::Model;
 
-/// A store that lines are put into. Contracts see the bytes that it has and those that survive a loss of power, where the store says so,
-/// and whether they are lost from sight: a sync or a cut failed, so that nobody knows what would survive. Else all that it has survives.
+/// A store to which lines are appended. Contracts see the bytes that it has and those that survive a loss of power, if the store says so,
+/// and whether they are lost from sight: a sync or a cut failed, so it isn't known what would survive. Otherwise all that it has survives.
 #[derive(Drop)]
 pub struct Shelf<S: Store> {
     store: S,
@@ -34,10 +34,10 @@ impl<S: Store> Model for Shelf<S> {
 }
 
 impl<S: Store> Shelf<S> {
-    /// Leaves the first `whole` bytes alone in a store that has `count`, and sees to it that they survive a loss of power.
+    /// Cuts a store that has `count` bytes to its first `whole` bytes, and makes sure that those survive a loss of power.
     ///
     /// # Errors
-    /// `Store`, with the store.
+    /// `Store` if the store fails, with the store.
     pub fn of(store: S, whole: usize, count: usize) -> Result<Shelf<S>, Unopened<S>>
         requires whole { whole ≤ count }
         requires known { IfSome (S.contents store) (λ xs. length xs ≡ count) }
@@ -58,10 +58,10 @@ impl<S: Store> Shelf<S> {
         }
     }
 
-    /// Tests that what the store has isn't lost from sight.
+    /// Tests that it is known what the store has.
     ///
     /// # Errors
-    /// `MustStartAgain` if it is.
+    /// `MustStartAgain` if it isn't.
     pub fn check(&self) -> Result<(), Fault>
         ensures { MatchResult result (λ _. self.now.is_lost ≡ false) (λ why. (why ≡ MustStartAgain) × (self.now.is_lost ≡ true)) }
     {
@@ -71,12 +71,12 @@ impl<S: Store> Shelf<S> {
         Ok(())
     }
 
-    /// Puts lines behind what the store has, and sees to it that all of it survives a loss of power. Puts and syncs nothing where there are
+    /// Appends lines to what the store has, and makes sure that all of it survives a loss of power. Appends and syncs nothing if there are
     /// no lines.
     ///
     /// # Errors
     /// `MustStartAgain` if what the store has is lost from sight, by this call or before. Else `Store` if it failed, or if it would have
-    /// 2^64 bytes: it has what it had.
+    /// 2^64 bytes or more: it has what it had.
     pub fn put(&mut self, lines: &[u8]) -> Result<(), Fault>
         ensures ok { OnOk result
             ((self.new.held ≡ append_known self.old.held lines.now) × (self.new.synced ≡ self.new.held) × (self.new.is_lost ≡ false)) }
@@ -120,18 +120,18 @@ impl<S: Store> Shelf<S> {
     }
 }
 
-/// What became of lines that were to be put into a store.
+/// The outcome of appending lines to a store.
 #[derive(Clone, Copy)]
 enum Put {
     /// They are there, and survive.
     Done,
     /// The store has what it had.
     Undone(StoreFailed),
-    /// Nobody knows.
+    /// It isn't known what the store has.
     Lost,
 }
 
-/// Puts lines behind the `count` bytes that a store has, all of which survive, and syncs it.
+/// Appends lines to the `count` bytes that a store has, all of which survive, and syncs it.
 fn put_into<S: Store>(store: &mut S, count: u64, lines: &[u8]) -> Put
     requires { IsInSight count (S.contents store.old) (S.synced store.old) }
     ensures done { result ≡ Done
@@ -151,7 +151,7 @@ fn put_into<S: Store>(store: &mut S, count: u64, lines: &[u8]) -> Put
     Put::Done
 }
 
-/// Leaves the first bytes alone in a store, and sees to it that they survive.
+/// Cuts a store to its first bytes, and makes sure that they survive.
 fn keep_first<S: Store>(store: &mut S, whole: usize, count: usize) -> Result<(), StoreFailed>
     requires whole { whole ≤ count }
     requires known { IfSome (S.contents store.old) (λ xs. length xs ≡ count) }

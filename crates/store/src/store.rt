@@ -1,4 +1,4 @@
-//! What keeps the bytes of a journal.
+//! A place for the bytes of a journal.
 
 ghost use Rattle.std.specs.Prelude.{◌≡◌, ℕ, List, Option, None, IfOk, OnOk, OnErr};
 ghost use Rattle.std.specs.Io.KnownBytes.{append_known};
@@ -9,7 +9,7 @@ use std::io::ErrorKind;
 use std::{fmt, io};
 use thiserror::Error;
 
-/// A call of a store failed, in the way that the system says.
+/// A call of a store failed, for the reason that the system gives.
 #[derive(Clone, Copy, Debug, PartialEq, Eq, Error)]
 pub struct StoreFailed {
     pub kind: ErrorKind,
@@ -28,10 +28,10 @@ impl From<io::Error> for StoreFailed {
     }
 }
 
-/// A place for bytes that survive a loss of power: a file, for example. One document has it at a time, of one program.
+/// A place for bytes that survive a loss of power, such as a file. It belongs to one document of one program at a time.
 ///
-/// Contracts see which bytes it has, as a read gives them, and which were there at the last sync that succeeded, where a store says so.
-/// That these survive is what it owes: nobody proves it.
+/// Contracts see which bytes it has, as a read returns them, and which were there at the last sync that succeeded, if a store says so. That
+/// these survive is up to the store: it isn't proved.
 pub trait Store {
     ghost contents: { Self → Option (List ℕ) } = { λ _. None };
 
@@ -45,28 +45,28 @@ pub trait Store {
         ensures bytes { IfOk result (λ bytes. AreKnown (contents self.old) bytes.items) }
         ensures same { (contents self.new ≡ contents self.old) × (synced self.new ≡ synced self.old) };
 
-    /// Puts the bytes behind those it has.
+    /// Appends the bytes to those it has.
     ///
     /// # Errors
-    /// `StoreFailed`. It may have taken a part of the bytes, from the first one on.
+    /// `StoreFailed`. It may then have appended the first of the bytes.
     fn append(&mut self, bytes: &[u8]) -> Result<(), StoreFailed>
         ensures ok { OnOk result (contents self.new ≡ append_known (contents self.old) bytes.now) }
         ensures err { OnErr result (AppendsSome (contents self.old) (contents self.new)) }
         ensures same { synced self.new ≡ synced self.old };
 
-    /// Makes all that it has survive a loss of power. What was there at a sync that succeeded is there until a `cut` takes it. Of what came
-    /// after it, a loss of power may leave nothing, all, or the first bytes.
+    /// Makes all that it has survive a loss of power. What was there at a sync that succeeded is there until a `cut` removes it. Of what
+    /// came after that sync, a loss of power may leave nothing, everything, or the first bytes.
     ///
     /// # Errors
-    /// `StoreFailed`. Nobody knows then what would survive, and a later sync may succeed without having written.
+    /// `StoreFailed`. It isn't known then what would survive, and a later sync may succeed without having written it.
     fn sync(&mut self) -> Result<(), StoreFailed>
         ensures ok { OnOk result (synced self.new ≡ contents self.new) }
         ensures same { contents self.new ≡ contents self.old };
 
-    /// Takes away all bytes behind the first `len`, of at least as many.
+    /// Removes all bytes after the first `len`. It must have at least that many.
     ///
     /// # Errors
-    /// `StoreFailed`. It may have taken some of them.
+    /// `StoreFailed`. It may then have removed some of them.
     fn cut(&mut self, len: u64) -> Result<(), StoreFailed>
         ensures ok { OnOk result (contents self.new ≡ first_known len (contents self.old)) }
         ensures survives { OnOk result (AreWithin (synced self.old) len → synced self.new ≡ synced self.old) };

@@ -115,7 +115,7 @@ any_within ns p (f ∷ fs) (suc k) h = by (is_written (slice_get ns f.1)) (any_w
   by true rest h = kept (p f.0) rest h
   by false rest h = rest h
 
--- so many of those among the fields at the front are the first of all
+-- those among the fields at the front, `count` of them, are the first of all
 pub first_wanted : (ns : List Node) (p : Name → Bool) (fs : List (Name × ℕ)) (k count : ℕ) (some : List Name) → count ≡ length some
     → some ≡ filter p (map (λ x. x.0) (names_in ns (take k fs))) → some ≡ take count (filter p (map (λ x. x.0) (names_in ns fs)))
 first_wanted ns p fs k count some long is =

@@ -1,4 +1,4 @@
--- What a clear of a list passes by, and what stands once it has.
+-- What a clear of a list skips, and what stands once it has.
 use Rattle.std.proofs.Common.{◌≡◌, ℕ, zero, suc, ◌+◌, ◌-◌, ◌<◌, ◌≤◌, nat_le, true, false, true≢false, cond, List, [], ◌∷◌, length, get_or}
 use Rattle.std.proofs.Common.{drop, Bool}
 use Rattle.std.proofs.Common.{Option, Some, None, is_some, refl, sym, ap, ◌∙◌, subst, arith, inl, inr}
@@ -120,7 +120,7 @@ pub none_left : (ns : List Node) (e : Element) (g : ℕ) (xs : List (OpId × ℕ
 none_left ns e g xs none left a lt = false_from_ne_true (is_any ((context ns).presence (Item e a)))
     (λ any. true≢false (sym (left a lt any) ∙ ap (λ ys. is_some (find id_cmp a ys)) none))
 
--- so many fields at which nothing stands needn't be cleared
+-- a run of fields at which nothing stands needn't be cleared
 past_count : (e : Element) (S : IdSet) (fs : List (Name × ℕ)) (C : Context) (d : Name × ℕ) → IsNested C → (count from : ℕ)
     → from + count ≤ length fs
     → ((i : ℕ) → from ≤ i → i < from + count → is_any (C.presence (Field e (get_or fs i d).0)) ≡ false)

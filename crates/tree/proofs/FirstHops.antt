@@ -16,7 +16,7 @@ first_of_both (suc n) (x ∷ xs) ys =
     let less : suc n - length (x ∷ take n xs) ≡ n - length (take n xs) = omega arith in
     ap (λ k. x ∷ (take n xs ++ take k ys)) less ∙ ap (λ zs. x ∷ zs) (first_of_both n xs ys)
 
--- so many fields, and then as many items as are left
+-- the first fields, and then as many items as are left
 pub first_below : (S : Shown) (e : Element) (n left : ℕ) → left ≡ n - length (take n (S.names e))
     → map FieldHop (take n (S.names e)) ++ map ItemHop (take left (S.items e)) ≡ take n (hops_below S e)
 first_below S e n left is =

@@ -41,7 +41,7 @@ pub put_there : {K : Type 0} (R : K → K → Ordering) → IsTotalOrder R → (
     → find R a (put R a j es) ≡ Some j
 put_there R o a j es = find-put R o a a j es ∙ ap (λ r. cond (is_eq r) (Some j) (find R a es)) (tied_itself o a)
 
--- the name of a node that no write has reached isn't told
+-- the name of a node that no write has reached isn't among the names
 names_unwritten : (ns : List Node) (n : Name) (j : ℕ) → is_written (slice_get ns j) ≡ false → (fs : List (Name × ℕ))
     → find name_cmp n fs ≡ None → names_in ns (put name_cmp n j fs) ≡ names_in ns fs
 names_unwritten ns n j d [] p = ap (λ b. cond b ((n, tt) ∷ []) []) d
@@ -110,7 +110,7 @@ module _ (ns : List Node) (at : ℕ) (n m : Node) (j : ℕ) (g : slice_get ns at
       children i (ItemHop a) = inl (sym (ap (find id_cmp a) (items i)))
       children i (FieldHop k) = put_links name_cmp name_total same_names FieldHop (λ o. (links_of o).0) key put_field i k
 
-      -- the new field was never written, so no name is told that wasn't
+      -- the new field was never written, so the names stay the same
       names : (i : ℕ) → names_in ns (links ns i).0 ≡ names_in (set ns at m) (links (set ns at m) i).0
       names i =
           set_each (λ x h. names_in ns (links ns h).0 ≡ names_in ns (links_of x).0) ns at n m g

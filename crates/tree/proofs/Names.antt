@@ -1,4 +1,4 @@
--- What the names at an element become where a write comes by one of its fields.
+-- What the names at an element become when a write goes through one of its fields.
 use Rattle.std.proofs.Common.{◌≡◌, ◌≢◌, ℕ, ◌<◌, true, false, cond, IsTrue, List, [], ◌∷◌, length, get_or, set, Option, Some, None, refl}
 use Rattle.std.proofs.Common.{sym, ap, ◌∙◌, true≢false}
 use Rattle.std.specs.declared.cmp.Ordering.{Ordering}

@@ -63,7 +63,7 @@ nested_empty = record {
   register = λ x a h. absurd (true≢false (sym h));
 }
 
--- the order of a list is no matter
+-- the order of a list doesn't matter
 pub nested_linked : (C : Context) (l : Element) (p : Option OpId) (a : OpId) → IsNested C → IsNested (linked C l p a)
 nested_linked C l p a n = record { presence = n.presence; register = n.register }
 
@@ -88,7 +88,7 @@ pub nested_each : (C : Context) (es : List Element) (S : IdSet) → IsNested C �
 nested_each C [] S n = n
 nested_each C (e ∷ es) S n = nested_each (clear C e S) es S (nested_clear C e S n)
 
--- who is reached has each element on the way down to it reached
+-- where an element is reached, so is each element on the way down to it
 reached_above : (v : Option Value) (t x e : Element) → is_under x e ≡ true → is_some (tag_of_value v t x) ≡ true
     → is_some (tag_of_value v t e) ≡ true
 reached_above None t x e u h = absurd (true≢false (sym h))

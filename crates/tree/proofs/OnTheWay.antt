@@ -41,7 +41,7 @@ new_at (Some s) id l a = is_same (Item s.0 id) (Item l a)
 abbrev flag_of : Context → Option (Element × Option OpId) → OpId → Element → OpId → Bool
 flag_of C s id l a = cond (new_at s id l a) false (is_any (C.presence (Item l a)))
 
--- an item that doesn't pass the test is no matter where it's put
+-- where an item that doesn't pass the test is put doesn't matter
 skip_hidden : (g : OpId → Bool) (id : OpId) (bs : List OpId) → g id ≡ false → filter g (skip id bs) ≡ filter g bs
 skip_hidden g id [] e = ap (λ b. cond b (id ∷ []) []) e
 skip_hidden g id (b ∷ bs) e = elim (is_smaller_id b id) as (λ c. filter g (cond c (id ∷ b ∷ bs) (b ∷ skip id bs)) ≡ filter g (b ∷ bs)) [
@@ -117,7 +117,7 @@ linked_shown ns ms links l p id is fits shown empty =
           ∙ empty.fields y n (flagged_view ns ms links.same links.flags y n ∙ low);
     }
 
--- an operation that was written at t: what stands beside the way to t keeps its presence, and each list its order
+-- an operation that was written at t: what isn't on the way to t keeps its presence, and each list its order
 abbrev pub written : Context → Element → OpId → Tag → Option Scalar → Context
 written C t a k s = registered (mark (entered C t a) t a k) t a s
 

@@ -52,7 +52,7 @@ tree_links ns ms count same t = record {
 pub tree_same : (ns ms : List Node) → SameLinks ns ms → IsTree ns → IsTree ms
 tree_same ns ms h t = tree_links ns ms h.count h.same t
 
--- the root is nobody's child_number
+-- the root is the child of no node
 no_root : (ns : List Node) → IsTree ns → (o : Option ℕ) (s : Hop) → next_number ns o s ≡ Some 0 → ⊥
 no_root ns t o s e =
     let (i, p, q) = next_some ns o s 0 e in

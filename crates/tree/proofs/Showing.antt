@@ -107,7 +107,7 @@ here f e l id b d a =
     elim (is_same_id a id) as (λ c. cond c b (f l a) ≡ cond (c && true) b (f l a)) [ true ↦ refl | false ↦ refl ]
     ∙ sym (ap (λ c. cond (is_same_id a id && c) b (f l a)) d)
 
--- but for one item the bound is at most what it was, and at most the item's counter, if it stands
+-- except for one item the bound is at most what it was, and at most the item's counter, if it stands
 pub lower : (b : Bool) (g k r : ℕ) → r ≡ cond b (min g k) g → (r ≤ g) × (b ≡ true → r ≤ k)
 lower true g k r is = let x = min-le_left g k in let y = min-le_right g k in (omega arith, λ yes. omega arith)
 lower false g k r is = (omega arith, λ no. absurd (true≢false (sym no)))

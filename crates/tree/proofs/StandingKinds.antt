@@ -1,4 +1,4 @@
--- As what something stands at a node.
+-- The kinds of value that stand at a node.
 use Rattle.std.proofs.Common.{◌≡◌, ◌||◌, List, [], ◌∷◌, ap, refl, ◌∙◌}
 use Rattle.std.specs.List.{filter, list_any}
 use Rattle.semantics.specs.Ids.{OpId}

@@ -5,6 +5,6 @@ use Rattle.semantics.specs.Context.{Context}
 use Rattle.semantics.specs.DocumentAnswer.{lists_of}
 use Rattle.semantics.specs.Questions.{Answer, Step, answer_at, resolve}
 
--- where f answers at each element, a is the answer at the one that the steps lead to, or the refusal of the steps
+-- a is what f answers at the element that the steps lead to, or the refusal of the steps
 abbrev pub IsAnswer : Context → (Element → Answer) → List Step → Answer → Type 0
 IsAnswer C f steps a = answer_at f (resolve (lists_of C) steps) ≡ a

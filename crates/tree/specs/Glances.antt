@@ -10,7 +10,7 @@ use Rattle.tree.specs.declared.glance.Row.{Row}
 use Rattle.tree.specs.declared.glance.Glance.{Glance}
 use Rattle.tree.specs.Nodes.{valued}
 
--- as what something stands there
+-- the tags of these kinds
 abbrev pub tags_in : Kinds → List Tag
 tags_in k = filter (has_kind k) (AsRegister ∷ AsMap ∷ AsList ∷ [])
 
@@ -28,7 +28,7 @@ row_of r = record {
 abbrev pub glance_in : Glance → TheGlance
 glance_in g = record { rows = map row_of g.rows.items; is_cut = g.is_cut }
 
--- Behind the old rows stand the first of these, n in all; and whether there are more.
+-- `new` is the old rows, and behind them the first of all, at most n rows together; and whether there are more.
 pub record IsFilled (n : ℕ) (old all new : List TheRow) (more : Bool) : Type 0 where
   pub rows : new ≡ take n (old ++ all)
   pub is_cut : more ≡ nat_lt n (length (old ++ all))

@@ -1,4 +1,4 @@
--- What stands beneath an element stands at it too.
+-- An id that stands beneath an element stands at it too.
 use Rattle.std.specs.Prelude.{◌≡◌, Bool, true, List, is_some}
 use Rattle.std.specs.FinMap.{find}
 use Rattle.semantics.specs.Ids.{OpId, id_cmp}

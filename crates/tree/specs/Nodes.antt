@@ -83,7 +83,7 @@ abbrev pub visible_of : Option Node → List OpId
 visible_of None = []
 visible_of (Some n) = n.order.visible
 
--- nothing stands at an item of its list whose id has a smaller counter; 0, where there is no node
+-- the counter below which nothing stands at an item of its list; 0, where there is no node
 abbrev pub empty_below_of : Option Node → ℕ
 empty_below_of None = 0
 empty_below_of (Some n) = n.empty_below
@@ -93,7 +93,7 @@ abbrev pub flags_of : Option Node → List (Name × Bool)
 flags_of None = []
 flags_of (Some n) = n.fields.flags
 
--- whether the flag of this field is raised: one that isn't there has none
+-- whether the flag of this field is raised: false, where there is no such field
 abbrev pub is_flagged : Option Node → Name → Bool
 is_flagged o n = unwrap_or (find name_cmp n (flags_of o)) false
 
@@ -125,13 +125,13 @@ pub record IsTree (ns : List Node) : Type 0 where
   pub sorted_names : (i : ℕ) → IsTrue (is_sorted name_cmp (links ns i).0)
   pub sorted_ids : (i : ℕ) → IsTrue (is_sorted id_cmp (links ns i).1)
 
--- the index beside each id of a node is the index of its replica in the table
+-- the index stored with each id of a node is the index of its replica in the table
 abbrev pub IsIndexedNode : List ℕ → Option Node → Type 0
 IsIndexedNode table None = Unit {0}
 IsIndexedNode table (Some n) = AreIndicesIn table n.presence.entries n.presence.indices
     × AreIndicesIn table n.register.entries n.register.indices
 
--- the same of each node
+-- the same for each node
 abbrev pub AreIndexedNodes : List ℕ → List Node → Type 0
 AreIndexedNodes table ns = (i : ℕ) → IsIndexedNode table (slice_get ns i)
 

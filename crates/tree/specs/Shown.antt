@@ -20,8 +20,8 @@ pub record AreEmpty (ns : List Node) : Type 0 where
   pub items : (l : Element) → IsEmptyBelow ns l (empty_below_of (node_at ns l))
   pub fields : (e : Element) (n : Name) → is_flagged (node_at ns e) n ≡ false → is_any ((context ns).presence (Field e n)) ≡ false
 
--- each list shows its visible items, and nothing stands at those below its bound, nor at a field whose flag isn't raised, but that
--- all this may be wrong at the items and fields at which off holds
+-- each list shows its visible items, and nothing stands at those below its bound, nor at a field whose flag isn't raised, except that all
+-- this may be wrong at the items and fields at which off holds
 pub record ShownBut (ns : List Node) (off : Element → Bool) : Type 0 where
   -- the flags as they are
   pub flag : Element → OpId → Bool

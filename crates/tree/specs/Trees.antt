@@ -76,7 +76,7 @@ abbrev pub FitsIn : Context → OpId → Option (Element × Option OpId) → Typ
 FitsIn C a None = Unit {0}
 FitsIn C a (Some slot) = IsTrue (has_position slot.1 (C.order slot.0)) × IsFalse (has_item a (C.order slot.0))
 
--- the same of an operation
+-- the same for an operation
 abbrev pub IsPlaced : Context → Stamped → Type 0
 IsPlaced C s = FitsIn C s.id (slot_of s.mutation s.place)
 

@@ -1,4 +1,4 @@
-//! What stands at an element, as questions ask for it.
+//! The content of an element, as questions ask for it.
 
 ghost use Rattle.std.specs.Prelude.{◌≡◌, ◌⊎◌, ◌<◌, ◌≤◌, ◌&&◌, Some, IfOk, IfErr, length, slice_get, take, IfSome};
 ghost use Rattle.ids.specs.declared.refusal.Refusal.TheVariants.{NoMemory};
@@ -17,7 +17,7 @@ use ids::{OpId, Refusal};
 use operation::{Expr, Key, Scalar, Tag};
 use std::alloc::{AllocError, Global};
 
-/// The register's values at the element that an expression leads to, rising by id. Copies each.
+/// The register's values at the element that an expression leads to, in ascending order of id. Copies each.
 pub fn values(
     nodes: &[Node],
     expression: &Expr,
@@ -34,7 +34,7 @@ pub fn values(
     Ok(values_of(nodes, node, alloc)?)
 }
 
-/// The values at a node, none where there is no node.
+/// The values at a node, none if there is no node.
 pub fn values_of(
     nodes: &[Node],
     node: Option<NodeNumber>,
@@ -49,7 +49,7 @@ pub fn values_of(
     }
 }
 
-/// The presence at the element that an expression leads to, rising by id.
+/// The presence at the element that an expression leads to, in ascending order of id.
 pub fn conflicts(
     nodes: &[Node],
     expression: &Expr,
@@ -67,7 +67,7 @@ pub fn conflicts(
     Ok(conflicts_of(nodes, node, alloc)?)
 }
 
-/// The presence of a node, empty where there is no node.
+/// The presence of a node, empty if there is no node.
 pub fn conflicts_of(
     nodes: &[Node],
     node: Option<NodeNumber>,
@@ -77,12 +77,12 @@ pub fn conflicts_of(
     ensures { IfOk result (λ v. (e : Element) → number nodes.now e ≡ node → tagged v.items ≡ (context nodes.now).presence e) }
 {
     match node {
-        Some(at) => copy_tags(&node_at(nodes, at).presence, alloc),
+        Some(at) => node_at(nodes, at).presence.copy(alloc),
         None => Ok(Vec::new(alloc)),
     }
 }
 
-/// The keys of the fields at which something stands, of the element that an expression leads to, in byte order.
+/// The keys of the fields that are present, of the element that an expression leads to, in byte order.
 pub fn keys(nodes: &[Node], expression: &Expr, alloc: Global) -> Result<Vec<Key>, Refusal>
     requires tree { IsTree nodes.now }
     requires empty { AreEmpty nodes.now }
@@ -96,7 +96,7 @@ pub fn keys(nodes: &[Node], expression: &Expr, alloc: Global) -> Result<Vec<Key>
     Ok(keys_of(nodes, node, alloc)?)
 }
 
-/// The keys at a node, none where there is no node.
+/// The keys at a node, none if there is no node.
 pub fn keys_of(
     nodes: &[Node],
     node: Option<NodeNumber>,
@@ -133,7 +133,7 @@ pub fn first_keys(
     }
 }
 
-/// The items at which something stands, of the list at the element that an expression leads to, in list order.
+/// The items that are present, of the list at the element that an expression leads to, in list order.
 pub fn items(nodes: &[Node], expression: &Expr, alloc: Global) -> Result<Vec<OpId>, Refusal>
     requires tree { IsTree nodes.now }
     requires shown { AreShown nodes.now }
@@ -146,7 +146,7 @@ pub fn items(nodes: &[Node], expression: &Expr, alloc: Global) -> Result<Vec<OpI
     Ok(items_of(nodes, node, alloc)?)
 }
 
-/// The items at a node, none where there is no node.
+/// The items at a node, none if there is no node.
 pub fn items_of(
     nodes: &[Node],
     node: Option<NodeNumber>,
@@ -194,20 +194,8 @@ fn copy_values(register: &Register, alloc: Global) -> Result<Vec<(OpId, Scalar)>
     Ok(values)
 }
 
-/// A copy of a presence's entries.
-fn copy_tags(presence: &Presence, alloc: Global) -> Result<Vec<(OpId, Tag)>, AllocError>
-    ensures { IfOk result (λ v. v.items ≡ presence.now.entries) }
-{
-    let mut tags = Vec::with_capacity(alloc, presence.len())?;
-    for position in 0..presence.len() {
-        let (id, tag) = presence.at(position);
-        tags.push((id, *tag))?;
-    }
-    Ok(tags)
-}
-
-/// The first keys, at most `count`, of the map's fields at which something stands, in byte order. Looks at the node of each field whose
-/// flag is raised, up to the last of them, and copies the keys that it returns.
+/// The first keys, at most `count`, of the map's fields that are present, in byte order. Looks at the node of each field whose flag is
+/// raised, up to the last of them, and copies the keys that it returns.
 fn present_keys(
     nodes: &[Node],
     at: NodeNumber,
@@ -238,7 +226,7 @@ fn present_keys(
     Ok(keys)
 }
 
-/// Whether a field's node was written to, and something stands there.
+/// Whether a field has a node, at which something is present.
 pub fn is_field(nodes: &[Node], at: NodeNumber) -> bool
     requires { at < length nodes.now }
     ensures { result ≡ is_written (slice_get nodes.now at) && is_any (presence_of (slice_get nodes.now at)) }
@@ -246,7 +234,7 @@ pub fn is_field(nodes: &[Node], at: NodeNumber) -> bool
     is_present(nodes, at) && node_at(nodes, at).is_written
 }
 
-/// Whether something stands at a node.
+/// Whether something is present at a node.
 pub fn is_present(nodes: &[Node], at: NodeNumber) -> bool
     requires { at < length nodes.now }
     ensures { result ≡ is_any (presence_of (slice_get nodes.now at)) }
@@ -254,8 +242,8 @@ pub fn is_present(nodes: &[Node], at: NodeNumber) -> bool
     node_at(nodes, at).presence.len() > 0
 }
 
-/// The items of the list at which something stands, in list order. Asks the list's order, which looks at each item of the blocks in
-/// which one is shown, tombstones included, and at no node.
+/// The items of the list that are present, in list order. Asks the list's order, which looks at every item, tombstones included, in the
+/// blocks that have a visible one, and at no node.
 fn present_items(nodes: &[Node], at: NodeNumber, alloc: Global) -> Result<Vec<OpId>, AllocError>
     requires tree { IsTree nodes.now }
     requires inside { at < length nodes.now }
@@ -265,7 +253,7 @@ fn present_items(nodes: &[Node], at: NodeNumber, alloc: Global) -> Result<Vec<Op
     node_at(nodes, at).order.visible(alloc)
 }
 
-/// The item of the list at which something stands, by its index among these. Asks the list's order, which looks at how many
+/// The item with this index among the present items of the list. Asks the list's order, which looks at how many
 /// items each of its blocks shows, and at no node.
 pub fn visible_item(nodes: &[Node], at: NodeNumber, index: u64) -> Option<OpId>
     requires tree { IsTree nodes.now }

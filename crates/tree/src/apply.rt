@@ -57,8 +57,8 @@ pub fn apply(
     show(nodes, op);
 }
 
-/// Clears and writes what an operation's mutation says. What lists show, their bounds of empty items, and the flags of fields may be wrong
-/// then on the way to its target, and nowhere else.
+/// Clears and writes what an operation's mutation says. Afterwards what lists show, their bounds of empty items, and the flags of fields
+/// may be wrong on the way to its target, and nowhere else.
 fn run(
     nodes: &mut [Node],
     op: &Op,

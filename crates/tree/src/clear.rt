@@ -1,4 +1,4 @@
-//! Clearing an element and all that is beneath it.
+//! Clearing an element and everything beneath it.
 
 ghost use Rattle.std.specs.Prelude.{◌≡◌, ◌<◌, ◌≤◌, ◌&&◌, ◌||◌, ℕ, Bool, Some, cond, drop, length, map, min, nat_le, slice_get};
 ghost use Rattle.std.specs.Prelude.{slice_index_or};
@@ -38,7 +38,7 @@ fn clear_node(nodes: &mut [Node], at: NodeNumber, covered: &Covered)
     node.register.clear(covered.column);
 }
 
-/// Sets what the list shows of the item with this index, if something stood there before it was cleared: else it isn't shown.
+/// Sets whether the list shows the item with this index, if the item was present before it was cleared; else it is hidden already.
 fn show_cleared(nodes: &mut [Node], at: NodeNumber, position: usize, was_present: bool)
     requires tree { IsTree nodes.old }
     requires inside { at < length nodes.old }
@@ -56,7 +56,7 @@ fn show_cleared(nodes: &mut [Node], at: NodeNumber, position: usize, was_present
     }
 }
 
-/// The position of the first item at which something may stand: nothing does at those before it. Binary search.
+/// The position of the first item that may be present: all before it are empty. Binary search.
 fn first_item(nodes: &[Node], at: NodeNumber) -> usize
     requires { at < length nodes.now }
     ensures from { drop result (links nodes.now at).1
@@ -70,8 +70,8 @@ fn first_item(nodes: &[Node], at: NodeNumber) -> usize
     node.items.first_above(node.empty_below - 1)
 }
 
-/// The bound below which all items of a list are empty, once the item with this index, whose node is `child`, was cleared too:
-/// lowered to the item's counter if something still stands there.
+/// The bound below which all items of a list are empty, once the item with this index, whose node is `child`, was cleared too: lowered to
+/// the item's counter if the item is still present.
 fn empty_below_after(
     nodes: &[Node],
     at: NodeNumber,
@@ -90,7 +90,7 @@ fn empty_below_after(
     empty_below_with(empty_below, &id, stands)
 }
 
-/// Notes that nothing stands at an item of a node's list whose id has a smaller counter.
+/// Records that each item of a node's list whose id has a smaller counter is empty.
 fn set_empty_below(nodes: &mut [Node], at: NodeNumber, empty_below: u64)
     requires tree { IsTree nodes.old }
     requires inside { at < length nodes.old }
@@ -105,10 +105,10 @@ fn set_empty_below(nodes: &mut [Node], at: NodeNumber, empty_below: u64)
     node.empty_below = empty_below;
 }
 
-/// Clears a node and all nodes beneath it, and sets what the lists beneath it show. Goes past what is empty with one look: nothing
-/// stands beneath it either. Of a map it comes to the fields whose flags are raised alone, and lowers the flags of those that it leaves
-/// empty. Of a list it begins at the first item that stood after the list's last clear, or that was shown since. So a map or a list
-/// that is emptied again and again, each time for new fields or items, costs its newest ones alone.
+/// Clears a node and all nodes beneath it, and sets what the lists beneath it show. Returns at once from a node that isn't present: nothing
+/// beneath it is present either. In a map it visits only the fields whose flags are raised, and lowers the flags of those that it leaves
+/// empty. In a list it begins at the first item that was present after the list's last clear, or that was shown since. So when a map or a
+/// list is emptied again and again, each time after new fields or items came, a clear costs only the newest ones.
 fn clear_below(nodes: &mut [Node], at: NodeNumber, covered: &Covered)
     requires tree { IsTree nodes.old }
     requires covered { IsCovered covered.now }
@@ -139,7 +139,8 @@ fn clear_below(nodes: &mut [Node], at: NodeNumber, covered: &Covered)
     }
     let items = count_items(nodes, at);
     let from = first_item(nodes, at);
-    // Where nothing is left all are empty, whatever their counters. The next item that is shown, new or late, lowers it to its own.
+    // If no item is left, all are empty, whatever their counters. The next item that is shown, new or late, lowers the bound to its own
+    // counter.
     let mut empty_below = u64::MAX;
     'items: for position in from..items {
         let child = item_at(nodes, at, position);
@@ -153,7 +154,7 @@ fn clear_below(nodes: &mut [Node], at: NodeNumber, covered: &Covered)
 }
 
 /// Clears a node and all nodes beneath it of what an operation depends on, and sets what the lists beneath it show. The column is filled
-/// only where something stands: most operations find nothing to clear.
+/// only if the node is present: most operations find nothing to clear.
 pub fn clear_of(nodes: &mut [Node], at: NodeNumber, stamp: &Stamp, column: &mut VersionVector)
     requires tree { IsTree nodes.old }
     requires stamp { IsStamp stamp.now }
@@ -183,8 +184,8 @@ pub fn clear_of(nodes: &mut [Node], at: NodeNumber, stamp: &Stamp, column: &mut 
     clear_below(nodes, at, &covered);
 }
 
-/// Clears the element at the end of a path and all beneath it, if a node was ever made there. The lists beneath it then show what
-/// stands there.
+/// Clears the element at the end of a path and everything beneath it, if a node was ever made there, and sets what the lists beneath it
+/// show.
 pub fn clear_at(nodes: &mut [Node], path: &[Hop], stamp: &Stamp, column: &mut VersionVector)
     requires tree { IsTree nodes.old }
     requires stamp { IsStamp stamp.now }

@@ -12,12 +12,12 @@ use crate::spot::Spot;
 use ids::Refusal;
 use operation::Expr;
 
-/// The node of the element that an expression leads to, `None` if none was made there. A binary search for each key, two for an id, and
-/// for an index a look at how many items each block of the list shows. Allocates nothing.
+/// The node of the element that an expression leads to, `None` if none was made there. A binary search for each key, two for an id; for an
+/// index it looks at how many items each block of the list shows. Allocates nothing.
 ///
 /// # Errors
-/// `AtHead` for a step from a head, or where the expression ends at one, `TooDeep` for one from an element 32 keys deep, `PastEnd` if
-/// the list has fewer visible items, or never had the one with the id: the first step that fails decides.
+/// `AtHead` for a step from a head, or if the expression ends at one; `TooDeep` for a step from an element 32 keys deep; `PastEnd` if the
+/// list has fewer visible items than the index, or never had an item with the id. The first step that fails decides.
 pub fn find(nodes: &[Node], expression: &Expr) -> Result<Option<NodeNumber>, Refusal>
     requires tree { IsTree nodes.now }
     requires shown { AreShown nodes.now }
@@ -29,7 +29,7 @@ pub fn find(nodes: &[Node], expression: &Expr) -> Result<Option<NodeNumber>, Ref
 {
     let mut spot = Spot::root();
     for step in expression.steps() {
-        // A `match`, since the borrow checker doesn't cover `?` of what holds a target.
+        // A `match`, since the borrow checker doesn't support `?` on a result that holds a target.
         match spot.target(nodes, step) {
             Ok(target) => spot = spot.after(nodes, &target),
             Err(why) => return Err(why),

@@ -1,4 +1,4 @@
-//! A part of a document at a glance: an element and what stands beneath it, as rows.
+//! A glance at a part of a document: an element and what is present beneath it, as rows.
 
 ghost use Rattle.std.specs.Prelude.{◌≡◌, ◌<◌, ◌≤◌, ◌+◌, ◌-◌, ◌⊎◌, ◌++◌, ◌∷◌, [], Ok, Some, IfOk, IfErr, IfSome, OnOk, length, map};
 ghost use Rattle.std.specs.Prelude.{option_map, take};
@@ -28,33 +28,33 @@ use std::alloc::{AllocError, Global};
 pub struct Row {
     /// How far it is beneath the element that was asked about.
     pub depth: usize,
-    /// The hop to it from the element above, `None` to the one that was asked about.
+    /// The hop to it from its parent, `None` for the element that was asked about.
     pub entered: Option<Hop>,
     pub kinds: Kinds,
-    /// What stands in its register, rising by id.
+    /// The values in its register, in ascending order of id.
     pub values: Vec<(OpId, Scalar)>,
-    /// Whether something stands beneath it that isn't shown, since it is too deep.
+    /// Whether something present beneath it isn't shown, because it is too deep.
     pub is_cut: bool,
 }
 
-/// An element and what stands beneath it: each element before what stands beneath it, fields by their keys before items in list order.
+/// An element and what is present beneath it, in preorder: fields by their keys before items in list order.
 #[derive(Debug, Drop)]
 pub struct Glance {
     pub rows: Vec<Row>,
-    /// Whether there are more rows. Then the last one, and those above it, may lack more of what stands beneath them.
+    /// Whether there are more rows. If so, the last row and the ones above it may lack more of what is present beneath them.
     pub is_cut: bool,
 }
 
-/// How much is looked at.
+/// How much a glance shows.
 #[derive(Clone, Copy, Debug)]
 pub struct Bounds {
     /// How far beneath the element that is asked about.
     pub depth: usize,
-    /// How many elements.
+    /// How many elements at most.
     pub elements: usize,
 }
 
-/// The element that an expression leads to at a glance. Copies what it shows.
+/// A glance at the element that an expression leads to. Copies what it shows.
 pub fn look(
     nodes: &[Node],
     expression: &Expr,
@@ -76,7 +76,7 @@ pub fn look(
     Ok(Glance { rows, is_cut })
 }
 
-/// Puts a node's rows behind those so far, up to the bound, and says whether there are more.
+/// Appends the rows of a node, up to the bound, and returns whether there are more.
 fn push_rows(
     nodes: &[Node],
     node: Option<NodeNumber>,
@@ -114,7 +114,7 @@ fn push_rows(
         )?;
         return Ok(false);
     }
-    // One hop more than rows are left beneath this one: each leads to a row, so the last then tells that there are more.
+    // One hop more than there is room for beneath this row: each hop leads to a row, so the last one then shows that there are more.
     let count = bounds.elements - rows.len();
     let hops = first_hops(nodes, here, count, alloc)?;
     push_row(nodes, row, entered, depth, false, rows, alloc)?;
@@ -129,7 +129,7 @@ fn push_rows(
     Ok(false)
 }
 
-/// Puts a node's own row behind those so far.
+/// Appends a node's own row.
 fn push_row(
     nodes: &[Node],
     node: Option<NodeNumber>,
@@ -158,7 +158,7 @@ fn push_row(
     Ok(())
 }
 
-/// Whether something stands beneath a node. Looks at the fields whose flags are raised until one shows.
+/// Whether anything is present beneath a node. Looks at the fields whose flags are raised until one is visible.
 fn stands_below(nodes: &[Node], node: Option<NodeNumber>) -> bool
     requires tree { IsTree nodes.now }
     requires shown { AreShown nodes.now }
@@ -172,7 +172,7 @@ fn stands_below(nodes: &[Node], node: Option<NodeNumber>) -> bool
     }
 }
 
-/// Whether something stands at a field of a node.
+/// Whether any field of a node is visible.
 fn has_field(nodes: &[Node], at: NodeNumber) -> bool
     requires tree { IsTree nodes.now }
     requires empty { AreEmpty nodes.now }
@@ -190,7 +190,7 @@ fn has_field(nodes: &[Node], at: NodeNumber) -> bool
     false
 }
 
-/// Whether something stands at an item of a node.
+/// Whether any item of a node is visible.
 fn has_item(nodes: &[Node], at: NodeNumber) -> bool
     requires tree { IsTree nodes.now }
     requires shown { AreShown nodes.now }
@@ -200,7 +200,7 @@ fn has_item(nodes: &[Node], at: NodeNumber) -> bool
     visible_item(nodes, at, 0).is_some()
 }
 
-/// The first hops, at most `count`, to what stands right beneath a node: to its fields, and then to its items.
+/// The first hops, at most `count`, from a node to its visible children: to its fields, and then to its items.
 fn first_hops(
     nodes: &[Node],
     node: Option<NodeNumber>,
@@ -222,7 +222,7 @@ fn first_hops(
     Ok(hops)
 }
 
-/// Puts the hops to these fields behind those so far.
+/// Appends the hops to these fields.
 fn push_fields(hops: &mut Vec<Hop>, keys: Vec<Key>) -> Result<(), AllocError>
     ensures { OnOk result (map hop_of hops.new.items ≡ map hop_of hops.old.items ++ map FieldHop keys.items) }
 {
@@ -232,7 +232,7 @@ fn push_fields(hops: &mut Vec<Hop>, keys: Vec<Key>) -> Result<(), AllocError>
     Ok(())
 }
 
-/// Puts the hops to these items behind those so far.
+/// Appends the hops to these items.
 fn push_items(hops: &mut Vec<Hop>, items: Vec<OpId>) -> Result<(), AllocError>
     ensures { OnOk result (map hop_of hops.new.items ≡ map hop_of hops.old.items ++ map ItemHop items.items) }
 {
@@ -242,7 +242,7 @@ fn push_items(hops: &mut Vec<Hop>, items: Vec<OpId>) -> Result<(), AllocError>
     Ok(())
 }
 
-/// As what something stands at a node, as nothing where there is no node. Looks at one id at most.
+/// The kinds of value that are present at a node, none if there is no node. Looks at one id at most.
 fn kinds_at(nodes: &[Node], node: Option<NodeNumber>) -> Kinds
     requires { IfSome node (λ at. at < length nodes.now) }
     ensures { (e : Element) → number nodes.now e ≡ node → tags_in result ≡ kinds_of ((context nodes.now).presence e) }

@@ -70,7 +70,7 @@ fn reserve_child(nodes: &mut Vec<Node>, at: NodeNumber, hop: &Hop) -> Result<(),
     }
 }
 
-/// Puts an empty node at the end, which has no parent yet, and returns its number.
+/// Appends an empty node, which has no parent yet, and returns its number.
 fn push_node(nodes: &mut Vec<Node>, fresh: Node) -> Result<NodeNumber, AllocError>
     requires tree { IsTree nodes.old.items }
     requires empty { IsEmptyNode fresh }
@@ -141,7 +141,7 @@ fn make_child(
     }
 }
 
-/// The number of a child, if there is one. A field is found again by one comparison then, as applying the operation asks for it.
+/// The number of a child, if there is one. A field's position is remembered, so that applying the operation finds it with one comparison.
 fn seek_child(nodes: &mut Vec<Node>, at: NodeNumber, hop: &Hop) -> Option<NodeNumber>
     requires tree { IsTree nodes.old.items }
     requires inside { at < length nodes.old.items }

@@ -83,8 +83,8 @@ fn link_list(nodes: &mut [Node], slot: &Slot<'_>, id: &OpId) -> NodeNumber
     item
 }
 
-/// Inserts a new item into a list, and writes it. What lists show, their bounds of empty items, and the flags of fields may be wrong then
-/// on the way to it, and nowhere else.
+/// Inserts a new item into a list, and writes it. Afterwards what lists show, their bounds of empty items, and the flags of fields may be
+/// wrong on the way to it, and nowhere else.
 pub fn insert(
     nodes: &mut [Node],
     slot: &Slot<'_>,

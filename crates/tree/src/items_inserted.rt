@@ -1,4 +1,4 @@
-//! Whether the items of a path stand in their lists.
+//! Whether the items of a path are in their lists.
 
 ghost use Rattle.std.specs.Prelude.{◌≡◌, ◌<◌, map, length, IfSome, IsTrue};
 ghost use Rattle.semantics.specs.Context.{Context};
@@ -31,7 +31,7 @@ pub fn items_stand(nodes: &[Node], path: &[Hop]) -> bool
     true
 }
 
-/// Whether each hop of the path is to a field, so that no item has to stand anywhere.
+/// Whether each hop of the path is to a field, so that there is no item to look for.
 fn goes_by_fields(path: &[Hop]) -> bool
     ensures { IsTrue result → (C : Context) → IsTrue (items_stand C (end_of (map hop_of path.now))) }
 {

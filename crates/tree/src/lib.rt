@@ -22,6 +22,6 @@ mod write;
 pub use glance::{Glance, Row};
 pub use tree::Tree;
 
-// Handed on from the crates below, for users of this one.
+// Re-exported from the crates below, for users of this one.
 pub use columns::Kinds;
 pub use operation::Hop;

@@ -1,4 +1,4 @@
-//! Nodes: what stands at an element, and the nodes beneath it.
+//! Nodes: the content of an element, and the nodes beneath it.
 
 ghost use Rattle.std.specs.Prelude.{◌≡◌, ◌<◌, Some, length, slice_get};
 ghost use Rattle.std.specs.Borrow.{sem};
@@ -44,20 +44,20 @@ impl NodeNumber {
     }
 }
 
-/// What stands at an element. Its children are named by their numbers.
+/// The content of an element. Its children are given by their numbers.
 #[derive(Debug, Drop)]
 pub struct Node {
     pub presence: Presence,
     pub register: Register,
-    /// The nodes of the map's fields. Nothing stands at a field whose flag isn't raised.
+    /// The nodes of the map's fields. A field whose flag isn't raised is empty.
     pub fields: Fields,
     /// The nodes of the list's items.
     pub items: Numbers,
-    /// Nothing stands at an item of the list whose id has a smaller counter.
+    /// Each item of the list whose id has a smaller counter is empty.
     pub empty_below: u64,
     /// The order of the list's items.
     pub order: ListOrder,
-    /// Whether it was written to. A node that was only reserved is no field yet.
+    /// Whether it was written to. A node that was only reserved isn't a field yet.
     pub is_written: bool,
 }
 

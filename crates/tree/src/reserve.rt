@@ -1,4 +1,4 @@
-//! Making all nodes and room that an operation needs along its path.
+//! Making all the nodes and the room that an operation needs along its path.
 
 ghost use Rattle.std.specs.Prelude.{◌≡◌, ◌<◌, Some, IfOk, OnOk, length, map, option_map};
 ghost use Rattle.semantics.specs.Elements.{Element, Item};

@@ -17,8 +17,8 @@ use ids::Refusal;
 use operation::{Expr, ExprStep as Step, Hop, MOST_KEYS, Place};
 use std::alloc::{AllocError, Global};
 
-/// The place that an expression leads to from the root. Copies its keys, and asks the order of a list for an item: for the one with an
-/// index it looks at how many items each of its blocks shows, and for one by its id it is a binary search.
+/// The place that an expression leads to from the root. Copies its keys. Items are looked up in the order of their list: for an index it
+/// looks at how many items each block shows, for an id it is a binary search.
 pub fn resolve(alloc: Global, nodes: &[Node], expression: &Expr) -> Result<Place, Refusal>
     requires tree { IsTree nodes.now }
     requires shown { AreShown nodes.now }
@@ -41,8 +41,8 @@ pub fn resolve(alloc: Global, nodes: &[Node], expression: &Expr) -> Result<Place
     Place::new(hops, spot.is_head)
 }
 
-/// How many hops the place has that the steps lead to: one for each, but none to the head of a list. A place has 32 at most, and keeps
-/// its hops for good, so they have no more room.
+/// How many hops the place has that the steps lead to: one for each step, but none for one to the head of a list. A place has 32 at most,
+/// and keeps its hops for good, so no more room is reserved for them.
 fn count_hops(steps: &[Step]) -> usize {
     let hops = match steps.split_last() {
         Some((Step::Idx(0), before)) => before.len(),
@@ -51,7 +51,7 @@ fn count_hops(steps: &[Step]) -> usize {
     hops.min(MOST_KEYS)
 }
 
-/// Appends the hop to a target, which is none to a head.
+/// Appends the hop to a target; a head has none.
 fn push_hop(hops: &mut Vec<Hop>, target: &Target) -> Result<(), AllocError>
     ensures { OnOk result
         (place_at (map hop_of hops.new.items) (is_head (target_from (end_of (map hop_of hops.old.items)) target.now))

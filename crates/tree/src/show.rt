@@ -1,4 +1,4 @@
-//! Keeping what the lists show, from where on something may stand at their items, and the flags of fields.
+//! Keeping up to date what lists show, their bounds of empty items, and the flags of fields.
 
 ghost use Rattle.std.specs.Prelude.{◌≡◌, ◌<◌, ◌||◌, ℕ, Bool, false, Some, length, map, min, cond, slice_index_or, IfSome};
 ghost use Rattle.std.specs.List.{filter};
@@ -30,8 +30,8 @@ pub fn empty_below_with(empty_below: u64, id: &OpId, stands: bool) -> u64
     }
 }
 
-/// Shows an item of a node's list if something stands at its node, and hides it if nothing does. The bound of
-/// empty items falls to an item that is shown, however old it is. A binary search and a walk in one block of the list.
+/// Shows an item of a node's list if it is present, and hides it if it isn't. An item that is shown, however old, lowers the bound of empty
+/// items. A binary search and a walk in one block of the list.
 fn show_item(nodes: &mut [Node], at: NodeNumber, id: &OpId, item: NodeNumber)
     requires tree { IsTree nodes.old }
     requires inside { at < length nodes.old }
@@ -65,7 +65,7 @@ pub fn show_child(nodes: &mut [Node], at: NodeNumber, position: usize)
     show_item(nodes, at, &id, item);
 }
 
-/// Raises the flag of the field with this index if something stands at its node, and lowers it if nothing does, in constant time.
+/// Raises the flag of the field with this index if the field is present, and lowers it if it isn't, in constant time.
 pub fn flag_field(nodes: &mut [Node], at: NodeNumber, position: usize, field: NodeNumber)
     requires tree { IsTree nodes.old }
     requires inside { at < length nodes.old }
@@ -84,7 +84,7 @@ pub fn flag_field(nodes: &mut [Node], at: NodeNumber, position: usize, field: No
     node.fields.set_flag(position, stands);
 }
 
-/// Sets the flag of a node's field, if it has a node, and returns that node's number. A binary search, as `Fields::locate`.
+/// Sets the flag of a node's field, if the field has a node, and returns that node's number. A binary search, as `Fields::locate`.
 fn show_field(nodes: &mut [Node], at: NodeNumber, key: &Key) -> Option<NodeNumber>
     requires tree { IsTree nodes.old }
     requires inside { at < length nodes.old }
@@ -99,7 +99,7 @@ fn show_field(nodes: &mut [Node], at: NodeNumber, key: &Key) -> Option<NodeNumbe
     Some(field)
 }
 
-/// Sets what a node's list shows of an item, if it has a node, and returns that node's number.
+/// Shows or hides an item of a node's list, if the item has a node, and returns that node's number.
 fn show_entry(nodes: &mut [Node], at: NodeNumber, id: &OpId) -> Option<NodeNumber>
     requires tree { IsTree nodes.old }
     requires inside { at < length nodes.old }
@@ -169,7 +169,7 @@ fn show_new(nodes: &mut [Node], slot: &Slot<'_>, id: &OpId)
     }
 }
 
-/// The same for what an insert at this place puts in.
+/// The same for the item that an insert at this place adds.
 fn show_insert(nodes: &mut [Node], place: &Place, id: &OpId)
     requires { IsTree nodes.old }
     ensures same { SameButFlags nodes.old nodes.new }
@@ -183,8 +183,7 @@ fn show_insert(nodes: &mut [Node], place: &Place, id: &OpId)
 }
 
 /// Sets what the lists show, their bounds of empty items, and the flags of fields, on the way to an operation's target, after it was
-/// applied:
-/// beneath it all are right already.
+/// applied: beneath the target all are right already.
 pub fn show(nodes: &mut [Node], op: &Op)
     requires { IsTree nodes.old }
     ensures same { SameButFlags nodes.old nodes.new }

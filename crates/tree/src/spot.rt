@@ -51,12 +51,12 @@ impl Spot {
         }
     }
 
-    /// Where a step leads from here. To an item it asks the list's order: by an index this looks at how many items each of its blocks
-    /// shows, by an id it is a binary search. Allocates nothing.
+    /// Where a step leads from here. An item is looked up in the list's order: for an index this looks at how many items each block shows,
+    /// for an id it is a binary search. Allocates nothing.
     ///
     /// # Errors
-    /// `AtHead` from a head, else `TooDeep` from an element 32 keys deep, else `PastEnd` if the list has fewer visible items, or never
-    /// had the one with the id.
+    /// `AtHead` from a head, else `TooDeep` from an element 32 keys deep, else `PastEnd` if the list has fewer visible items than the
+    /// index, or never had an item with the id.
     // Inlined into both walks, so that a question's target is never written to memory.
     #[inline(always)]
     pub fn target<'a>(&self, nodes: &[Node], step: &'a Step) -> Result<Target<'a>, Refusal>
@@ -85,7 +85,7 @@ impl Spot {
         }
     }
 
-    /// The spot there. A binary search, unless it is the head.
+    /// The spot that a target leads to. A binary search, unless it is the head.
     #[inline(always)]
     pub fn after(&self, nodes: &[Node], target: &Target) -> Spot
         requires tree { IsTree nodes.now }
@@ -100,7 +100,7 @@ impl Spot {
         }
     }
 
-    /// At a child, whose node this is.
+    /// The spot of a child whose node this is.
     fn below(&self, node: Option<NodeNumber>) -> Spot
         requires { self.now.depth < most_keys }
         ensures node { result.node ≡ node }
@@ -114,7 +114,7 @@ impl Spot {
         }
     }
 
-    /// At the head of the list here.
+    /// The spot at the head of the list here.
     fn head(&self) -> Spot
         ensures node { result.node ≡ self.now.node }
         ensures depth { result.depth ≡ self.now.depth }

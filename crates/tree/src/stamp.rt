@@ -12,7 +12,7 @@ pub struct Stamp<'a> {
     pub vector: &'a NamedVector,
 }
 
-/// What a clear removes: the ids that a column covers, which is indexed by the table.
+/// What a clear removes: the ids covered by a column, which is indexed by the table.
 #[derive(Clone, Copy, Debug)]
 pub struct Covered<'a> {
     pub table: &'a ReplicaTable,

@@ -1,4 +1,4 @@
-//! A tree: the nodes, with the table of the replicas that stand in them.
+//! A tree: the nodes, with the table of the replicas whose ids they hold.
 
 ghost use Rattle.std.specs.Prelude.{◌≡◌, ◌<◌, ◌⊎◌, false, IsTrue, IfOk, IfErr, OnOk, Ok, Err};
 ghost use Rattle.ids.specs.declared.refusal.Refusal.TheVariants.{NoMemory};
@@ -31,7 +31,7 @@ use operation::{Expr, Key, Op, Place, Scalar, Tag, VersionVector};
 use std::alloc::{AllocError, Global};
 use std::marker::Model;
 
-/// What stands at each element of a document. Contracts see the table and the nodes, and speak of the context that these stand for.
+/// The content of each element of a document. Contracts see the table and the nodes, and speak of the context that these stand for.
 #[derive(Debug, Drop)]
 pub struct Tree {
     pub(crate) table: ReplicaTable,
@@ -73,8 +73,8 @@ impl Tree {
         })
     }
 
-    /// Makes all that applying this operation needs: nodes, room, and clones of keys and of the scalar; and room for one more replica.
-    /// The content stays, whatever the answer.
+    /// Makes everything that applying this operation needs: nodes, room, clones of keys and of the scalar, and room for one more replica.
+    /// The content doesn't change, whatever the result.
     ///
     /// # Errors
     /// `AllocError` if allocation fails.
@@ -90,11 +90,11 @@ impl Tree {
         self.column.widen(self.table.len() + 1)
     }
 
-    /// Applies an operation that was reserved. Allocates nothing. Beneath an assign's or a delete's element it visits each node at
-    /// which something stands, and of the children of those the fields whose flags are raised, and the items from the first on that
-    /// stood after the list was last cleared, or that was written to since. It writes at each element of the path, and then sets the
-    /// flags of the fields there, and whether the lists show the items there. A replica that isn't in the table joins it; the replicas
-    /// that the operation names are in it.
+    /// Applies an operation that was reserved. Allocates nothing. Beneath the element of an assign or a delete it visits each node that is
+    /// present, and of its children the fields whose flags are raised, and the items from the first one on that was present after the list
+    /// was last cleared, or that was written to since. It writes at each element of the path, and then sets the flags of the fields there,
+    /// and whether the lists show the items there. A replica that isn't in the table joins it; the replicas that the operation names must
+    /// be in it.
     pub fn apply(&mut self, op: &Op)
         requires reserved { IsReserved self.old.nodes self.old.scalar (stamped_of op.now) }
         requires placed { IsPlaced (document self.old) (stamped_of op.now) }
@@ -116,16 +116,16 @@ impl Tree {
         apply(&mut self.nodes, op, &stamp, &mut self.column, scalar);
     }
 
-    /// Whether each item on the way to the place was inserted into the list that it is entered from. A binary search for each key,
-    /// unless all are of fields.
+    /// Whether each item on the way to the place was inserted into the list that it is entered from. A binary search for each key, unless
+    /// all are of fields.
     pub fn has_items(&self, place: &Place) -> bool
         ensures { result ≡ items_stand (document self.now) (element_of place.now) }
     {
         items_stand(&self.nodes, place.hops())
     }
 
-    /// The place that an expression leads to. Asks a list's order for an item: for the one with an index it looks at how many items
-    /// each of its blocks shows, and at no node, and for one by its id it is a binary search.
+    /// The place that an expression leads to. Items are looked up in the order of their list: for an index it looks at how many items each
+    /// block shows, and at no node; for an id it is a binary search.
     ///
     /// # Errors
     /// `AtHead`, `PastEnd` or `TooDeep` by the rules, or `NoMemory` if allocation fails.
@@ -136,11 +136,12 @@ impl Tree {
         resolve(alloc, &self.nodes, expression)
     }
 
-    /// The values in the register at the element that an expression leads to, rising by id. Copies each. Allocates nothing on the way
-    /// there: a binary search for each key, two for an id, and for an index a look at how many items each block of the list shows.
+    /// The values in the register at the element that an expression leads to, in ascending order of id. Copies each. The way there
+    /// allocates nothing: a binary search for each key, two for an id, and for an index a look at how many items each block of the list
+    /// shows.
     ///
     /// # Errors
-    /// The refusal of the expression, as `resolve`, and `AtHead` where it leads to a head; or `NoMemory` if allocation fails.
+    /// The refusal of the expression, as from `resolve`, and `AtHead` if it leads to a head; or `NoMemory` if allocation fails.
     pub fn values(&self, alloc: Global, expression: &Expr) -> Result<Vec<(OpId, Scalar)>, Refusal>
         ensures answer { IfOk result
             (λ v. IsAnswer (document self.now) (λ e. ValuesAre ((document self.now).register e)) expression.now
@@ -151,7 +152,7 @@ impl Tree {
         values(&self.nodes, expression, alloc)
     }
 
-    /// The presence there, rising by id.
+    /// The presence there, in ascending order of id.
     ///
     /// # Errors
     /// As `values`.
@@ -165,8 +166,8 @@ impl Tree {
         conflicts(&self.nodes, expression, alloc)
     }
 
-    /// The keys of the fields there at which something stands, in byte order. Looks at the node of each field whose flag is raised, and
-    /// passes the flags of the others many at a time.
+    /// The keys of the visible fields there, in byte order. Looks at the node of each field whose flag is raised, and skips the flags of
+    /// the others many at a time.
     ///
     /// # Errors
     /// As `values`.
@@ -192,12 +193,12 @@ impl Tree {
         items(&self.nodes, expression, alloc)
     }
 
-    /// The element there at a glance: what stands there and, down to so many elements beneath it, what stands beneath, at most so many
-    /// elements in all. What isn't shown is marked.
+    /// A glance at the element there: what is present there and, down to `depth` levels beneath it, what is present beneath, at most
+    /// `elements` elements in all. What isn't shown is marked.
     ///
-    /// Costs what it shows, of which it copies the values and the keys. Of what stands right beneath an element it takes no more than may
-    /// still be shown, and one more, and looks at a list's blocks up to the one that has the last of these; as what something stands is
-    /// known.
+    /// The cost is proportional to what it shows, whose values and keys it copies. Of an element's children it takes at most one more than
+    /// may still be shown, and looks at a list's blocks up to the one that has the last of these; the kinds of value there are known
+    /// without a scan.
     ///
     /// # Errors
     /// As `values`.

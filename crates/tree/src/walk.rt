@@ -44,8 +44,8 @@ pub fn field_at(nodes: &[Node], at: NodeNumber, position: usize) -> NodeNumber
     NodeNumber::new(node_at(nodes, at).fields.at(position).1)
 }
 
-/// The index of the first field, from this one on, whose flag is raised, or how many fields there are: nothing stands at those
-/// before it. Looks at many flags at a time.
+/// The index of the first field, from this one on, whose flag is raised, or how many fields there are: those that it skips are empty. Looks
+/// at many flags at a time.
 pub fn next_field(nodes: &[Node], at: NodeNumber, from: usize) -> usize
     requires tree { IsTree nodes.now }
     requires inside { at < length nodes.now }

@@ -1,4 +1,4 @@
--- What values mean, when two are one, and their form in JSON.
+-- What values mean, when two are the same, and their form in JSON.
 pub mod Values
 pub mod Forms
 pub mod SameValues

@@ -1,4 +1,4 @@
--- When two values are one, and that these tests are equalities.
+-- When two values are the same, and that these tests are equalities.
 use Rattle.std.specs.Prelude.{◌≡◌, ℕ, ℤ, Bool, true, false, List, nat_eq}
 use Rattle.std.proofs.Common.{refl, sym, ap, true≢false}
 use Rattle.std.proofs.Math.Bool.{beq}

@@ -14,7 +14,7 @@ use serde_json::{Map, Value};
 use std::alloc::{AllocError, Global};
 
 impl Val {
-    /// The value of a JSON value. Only a text takes memory, once its length is known.
+    /// The value of a JSON value. Only a text allocates, after its length is checked.
     ///
     /// # Errors
     /// `NotWhole` for a number that isn't whole or has more than 64 bits, `TextTooLong` for a text of more than 4,096 bytes,
@@ -42,7 +42,7 @@ impl Val {
         }
     }
 
-    /// The value as JSON, which `from_json` reads as the same value. Only a text takes memory.
+    /// The value as JSON, which `from_json` reads as the same value. Only a text allocates.
     ///
     /// # Errors
     /// `AllocError` if allocation fails.
@@ -60,7 +60,7 @@ impl Val {
 }
 
 impl Scalar {
-    /// The scalar as JSON. Only a text takes memory.
+    /// The scalar as JSON. Only a text allocates.
     ///
     /// # Errors
     /// `AllocError` if allocation fails.

@@ -46,7 +46,7 @@ impl Key {
     /// A copy of the text as a key.
     ///
     /// # Errors
-    /// `KeyTooLong` for more than 256 bytes, before any memory is taken, else `NoMemory` if allocation fails.
+    /// `KeyTooLong` for more than 256 bytes, before anything is allocated, else `NoMemory` if allocation fails.
     pub fn new(alloc: Global, text: &str) -> Result<Key, Refusal>
         ensures ok { IfOk result (λ k. (k ≡ text.now) × (length text.now ≤ most_key_bytes)) }
         ensures too_long { (result ≡ Err KeyTooLong) ↔ (most_key_bytes < length text.now) }
@@ -60,7 +60,7 @@ impl Text {
     /// A copy of the text as a value.
     ///
     /// # Errors
-    /// `TextTooLong` for more than 4,096 bytes, before any memory is taken, else `NoMemory` if allocation fails.
+    /// `TextTooLong` for more than 4,096 bytes, before anything is allocated, else `NoMemory` if allocation fails.
     pub fn new(alloc: Global, text: &str) -> Result<Text, Refusal>
         ensures ok { IfOk result (λ t. (t ≡ text.now) × (length text.now ≤ most_text_bytes)) }
         ensures too_long { (result ≡ Err TextTooLong) ↔ (most_text_bytes < length text.now) }
@@ -79,7 +79,7 @@ impl<const MOST: usize> BoundedText<MOST> {
         self.text.as_str()
     }
 
-    /// A copy of the text. Tests its length before it takes memory.
+    /// A copy of the text. Checks its length before it allocates.
     fn copy_of(alloc: Global, text: &str, too_long: Refusal) -> Result<BoundedText<MOST>, Refusal>
         ensures ok { IfOk result (λ t. (t ≡ text.now) × (length text.now ≤ MOST)) }
         ensures err { IfErr result (λ why. ((why ≡ NoMemory) × (length text.now ≤ MOST)) ⊎ ((why ≡ too_long) × (MOST < length text.now))) }
@@ -135,7 +135,7 @@ impl<const MOST: usize> Ord for BoundedText<MOST> {
 
     ghost matches_eq = { λ x y. texts_ties x y };
 
-    /// By bytes.
+    /// In byte order.
     fn cmp(&self, other: &BoundedText<MOST>) -> Ordering {
         self.text.cmp(&other.text)
     }

@@ -1,4 +1,4 @@
--- Columns of the counters that a vector names of the replicas of a table.
+-- Columns of the counters that a vector names for the replicas of a table.
 use Rattle.std.proofs.Common.{◌≡◌, ℕ, suc, ◌<◌, ◌≤◌, ◌||◌, ◌==◌, Bool, true, false, true≢false, cond, List, [], ◌∷◌, map, length}
 use Rattle.std.proofs.Common.{get_or, take}
 use Rattle.std.proofs.Common.{max, refl, sym, ap, ◌∙◌, arith}
@@ -12,7 +12,7 @@ use Rattle.semantics.specs.Vectors.{Vector, at, raise, IsCanonical}
 use Rattle.semantics.specs.Tables.{by_table, component}
 use Rattle.semantics.proofs.TableVectors.{at-by_table, canonical-by_table}
 
--- a column is what a function gives of each replica of the table
+-- a column is what a function gives for each replica of the table
 pub by_indices : (f : ℕ → ℕ) (ps cs : List ℕ) → length cs ≡ length ps → ((i : ℕ) → i < length ps → get_or cs i 0 ≡ f (get_or ps i 0))
     → cs ≡ map f ps
 by_indices f [] [] long at_index = refl
@@ -21,7 +21,7 @@ by_indices f (p ∷ ps) [] long at_index = absurd (omega (arith, long))
 by_indices f (p ∷ ps) (c ∷ cs) long at_index =
     λ t. at_index 0 (omega arith) t ∷ by_indices f ps cs (omega (arith, long)) (λ i lt. at_index (suc i) (omega (arith, lt))) t
 
--- of a replica of the table a column has what the function gives of it
+-- for a replica of the table a column has what the function gives for it
 pub component-map : (f : ℕ → ℕ) (ps : List ℕ) (p : ℕ) → component ps (map f ps) p ≡ cond (is_member ps p) (f p) 0
 component-map f [] p = refl
 component-map f (q ∷ ps) p = at_test (q == p) refl (component-map f ps p)
@@ -31,7 +31,7 @@ component-map f (q ∷ ps) p = at_test (q == p) refl (component-map f ps p)
     at_test true e rest = ap f (eqb-true q p e)
     at_test false e rest = rest
 
--- nothing is named of others
+-- nothing is named for others
 pub at-others : (ps : List ℕ) (v : Vector) (p : ℕ) → names_only ps v ≡ true → is_member ps p ≡ false → at v p ≡ 0
 at-others ps [] p all none = refl
 at-others ps (a ∷ v) p all none =
@@ -54,7 +54,7 @@ named_column ps v distinct canonical all =
     at_test p true e = refl
     at_test p false e = sym (at-others ps v p all e)
 
--- the same of a column that may be wider than the table
+-- the same for a column that may be wider than the table
 pub wide_column : (ps cs : List ℕ) (v : Vector) → AreDistinct ps → IsCanonical v → names_only ps v ≡ true → length ps ≤ length cs
     → ((i : ℕ) → i < length ps → get_or cs i 0 ≡ at v (get_or ps i 0)) → by_table ps cs ≡ v
 wide_column ps cs v distinct canonical all wide named =

@@ -11,8 +11,8 @@ use rings::Rings;
 use std::alloc::{AllocError, Global};
 use std::marker::Model;
 
-/// Ids of replicas of a table, in an order that the caller chooses: a column of counters and a column of the replicas' indices in
-/// the table, with scratch room for the bound that a vector sets each id and for a bit of each.
+/// Ids of replicas of a table, in an order that the caller chooses: a column of counters and a column of the replicas' indices in the
+/// table, with scratch room for the bound that a vector sets for each id and for one bit of each.
 ///
 /// Contracts see the ids, and for how many more there is room.
 #[derive(Debug, Drop)]
@@ -81,7 +81,7 @@ impl IdColumns {
         self.mask.reserve(1)
     }
 
-    /// Inserts an id at a position. Allocates nothing. Costs what an insert into `Rings` does, so at the end it is one push.
+    /// Inserts an id at a position. Allocates nothing. Costs as much as an insert into `Rings`, so at the end it is one push.
     pub fn insert(&mut self, position: usize, counter: u64, index: usize)
         requires within { position ≤ length self.old.ids }
         requires room { 0 < self.old.room }

@@ -1,4 +1,4 @@
--- Lines that were written beside a base are read there as their operations.
+-- Lines that were written relative to a base are read there as their operations.
 use Rattle.std.proofs.Common.{◌≡◌, ℕ, Bool, true, false, cond, List, [], ◌∷◌, ◌++◌, map, Result, Ok, Err, refl, sym, ap, ◌∙◌, append_assoc}
 use Rattle.std.proofs.Common.{IsUtf8, append-nil}
 use Rattle.std.specs.Prelude.{codes}
@@ -37,7 +37,7 @@ whole_of base (Ok p) s h = by (bytes_eq p.0 (codes "op")) h
     by true e = e
     by false e = absurd (cc)
 
--- a line of the first profile is read alike beside each base
+-- a line of the first profile is read the same relative to every base
 pub whole_line : (base : Vector) (text : List ℕ) (s : Stamped) → op_form text ≡ Ok s → line_form base text ≡ Ok s
 whole_line base text s h = by (json_form text) h
   where
@@ -84,7 +84,7 @@ line_back : (p : Profile) (base : Vector) (s : Stamped) → IsSentVector 0 base 
 line_back Whole base s h sent utf8 = whole_line base (compact_text (json_in Whole base s)) s (op_form-op_line s sent utf8)
 line_back Differences base s h sent utf8 = line_form-op2_line base s (canonical_sent 0 base h) (sent_is_beside base s h sent) utf8
 
--- the lines of operations that can be sent are so, where their texts are UTF-8
+-- the lines of operations that can be sent are UTF-8 if their texts are
 pub sent_back : (base : Vector) (ls : List (Profile × Stamped)) → IsSentVector 0 base → All IsSent (operations_of ls)
     → AreUtf8 (jsons_in base ls) → AreReadBack base ls
 sent_back base [] h sent utf8 = tt
@@ -108,7 +108,7 @@ operations_told : (ss : List Stamped) → operations_of (told ss) ≡ ss
 operations_told [] = refl
 operations_told (s ∷ ss) = ap (λ (rest : List Stamped). s ∷ rest) (operations_told ss)
 
--- each line of a bundle is read as its operation, where that can be sent
+-- each line of a bundle is read as its operation, if that can be sent
 abbrev pub AreBackIfSent : Vector → List Stamped → Type 0
 AreBackIfSent base [] = ⊤
 AreBackIfSent base (s ∷ ss) = (CanBeSent s → line_form base (op2_line base s) ≡ Ok s) × AreBackIfSent s.vector ss

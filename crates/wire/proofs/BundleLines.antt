@@ -24,14 +24,14 @@ after-op base text line rest ops s first e =
       stopped = (readable s.vector rest).stopped;
     })
 
--- a line that is none
+-- a line that isn't
 pub after-bad : (base : Vector) (text line rest : List ℕ) (ops : List Stamped) (why : Refusal) → IsFirstLine text line rest
     → line_form base line ≡ Err why
     → after ops (readable base text) ≡ record { operations = ops; stopped = Some why }
 after-bad base text line rest ops why first e =
     rw (cut-first_line text line rest first, e) (λ i. record { operations = append-nil ops i; stopped = Some why })
 
--- bytes that no line feed ends
+-- bytes without a line feed at the end
 pub after-cut : (base : Vector) (text : List ℕ) (ops : List Stamped) → HasNoEnd text → text ≢ []
     → after ops (readable base text) ≡ record { operations = ops; stopped = Some BadLine }
 after-cut base [] ops h some = absurd (some refl)

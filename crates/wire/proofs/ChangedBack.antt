@@ -1,4 +1,4 @@
--- What a base becomes by changes that rise and tell something new has these as its differences from the base.
+-- If changes ascend and each changes something, then what they make of a base has them as its differences from the base.
 use Rattle.std.proofs.Common.{◌≡◌, ◌≢◌, ◌⊎◌, inl, inr, [], ◌∷◌, refl, sym, ap, ◌∙◌, subst, arith}
 use Rattle.std.proofs.lemmas.Bool.{cases_eq, cases_order}
 use Rattle.ids.proofs.CanonicalVectors.{at_first, at_later}
@@ -15,7 +15,7 @@ delta-none : (base : Vector) → IsCanonical base → delta base base ≡ []
 delta-none [] h = refl
 delta-none (b ∷ base) h = delta_same b b base base refl refl h.1 ∙ delta-none base h.2
 
--- what tells something new beside a base does so without the first pair, which none of it is about
+-- what changes something relative to a base does so without the base's first pair, if none of it is about that pair's replica
 tells_less : (b : OpId) (base d : Vector) → AreAbove b.replica d → Tells (b ∷ base) d → Tells base d
 tells_less b base [] h k = tt
 tells_less b base (a ∷ d) h k =
@@ -47,7 +47,7 @@ back_there a b base d e h told back = ap (delta (b ∷ base)) (changed_there a b
         ∙ delta_other a b base (changed base d) e other h
         ∙ ap (λ (w : Vector). a ∷ w) back
 
--- a replica of the base that none of the changes is about
+-- a replica of the base that no change is about
 back_past : (b : OpId) (base d : Vector) → AreAbove b.replica base → AreAbove b.replica d → delta base (changed base d) ≡ d
     → delta (b ∷ base) (changed (b ∷ base) d) ≡ d
 back_past b base d h k back =

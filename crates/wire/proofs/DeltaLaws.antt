@@ -1,4 +1,4 @@
--- A canonical vector is its base with its differences, which rise and differ from the base.
+-- A canonical vector is its base with its differences, which ascend and differ from the base.
 use Rattle.std.proofs.Common.{◌≡◌, ◌≢◌, ◌⊎◌, inl, inr, [], ◌∷◌, refl, sym, ap, ◌∙◌}
 use Rattle.std.proofs.Common.{subst, arith}
 use Rattle.std.proofs.lemmas.Bool.{cases_eq, cases_order}

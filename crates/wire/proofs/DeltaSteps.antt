@@ -116,7 +116,7 @@ pub changed_there : (a b : OpId) (base d : Vector) → a.replica ≡ b.replica �
 changed_there a b base d e h =
     ap (with_counter a) (changed_past b base d (subst (λ p. AreAbove p d) e h)) ∙ counter_there a b (changed base d) e
 
--- what of the base is left behind a change
+-- what is left of the base after a change
 pub changed_behind : (a : OpId) (base d : Vector) → IsCanonical base → BeginsFrom a.replica base → AreAbove a.replica d
     → changed base (a ∷ d) ≡ named_before a (changed (behind a.replica base) d)
 changed_behind a [] d rises from h = changed_new a [] d tt h

@@ -1,4 +1,4 @@
--- An iterator whose model is the list of what is left gives its first pair, and gets shorter.
+-- An iterator whose model is the list of what is left returns its first pair, and gets shorter.
 use Rattle.std.proofs.Common.{◌≡◌, ℕ, ◌<◌, ◌≤◌, true, false, Some, ◌∷◌, length, ap, arith, tests}
 use Rattle.std.specs.Bool.{⊤}
 use Rattle.std.specs.Iterator.{MakesProgress, item_count}

@@ -1,4 +1,4 @@
--- What is read of a text has each number below 0 as such a number.
+-- In what is read from a text, each number marked as negative is below 0.
 use Rattle.std.proofs.Common.{◌≡◌, ◌<◌, ◌^◌, ◌&&◌, ◌==◌, ℕ, zero, suc, Bool, true, false, cond, nat_lt, nat_le, List, Option, Some, None}
 use Rattle.std.proofs.Common.{refl, arith}
 use Rattle.std.specs.Prelude.{⊤, pos, negsuc, option_map, option_and_then, slice_index, drop}
@@ -11,7 +11,7 @@ use Rattle.serde_json.specs.Data.{no_members}
 use Rattle.serde_json.specs.Read.{float_of, is_integer, max_depth, number_from, number_of, of_items, of_json, of_members, read}
 use Rattle.json.specs.Lex.{tokens}
 
--- a number that is said to be below 0 is
+-- a number marked as negative is below 0
 abbrev pub IsNormalNumber : Num → Type 0
 IsNormalNumber (unsigned n) = ⊤
 IsNormalNumber (negative (pos n)) = ⊥

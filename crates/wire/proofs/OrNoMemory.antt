@@ -1,4 +1,4 @@
--- What an answer says that may be NoMemory in place of another refusal.
+-- What follows from an answer that may be NoMemory in place of another refusal.
 use Rattle.std.proofs.Common.{◌≡◌, ◌⊎◌, Result, Ok, Err, inl, inr, sym}
 use Rattle.ids.specs.declared.refusal.Refusal.{Refusal}
 use Rattle.ids.specs.declared.refusal.Refusal.TheVariants.{NoMemory}

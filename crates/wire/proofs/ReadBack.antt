@@ -55,7 +55,7 @@ abbrev written_key : Hop → LastKey
 written_key (FieldHop n) = FieldName n
 written_key (ItemHop a) = ItemId a
 
--- as what the element before a key is entered
+-- the tag with which the element before a key is entered
 abbrev tag_before : Hop → Tag
 tag_before (FieldHop n) = AsMap
 tag_before (ItemHop a) = AsList
@@ -185,7 +185,7 @@ pub hello_back : (v : Vector) → IsSentVector 0 v → length v ≤ 256
     → and_then hello_of (phrase_form (hello_json v)) ≡ Ok v
 hello_back v h few = rw (few_pairs v few, pairs_back 0 v h) refl
 
--- ---- what types keep, beside what a caller answers for
+-- ---- what types guarantee, besides what a caller answers for
 
 sent_vector : (p : ℕ) (v : Vector) → IsCanonical v → AreAbove p v → AreReplicaNumbers v → are_counters v ≡ true → IsSentVector p v
 sent_vector p [] rising above typed counters = tt
@@ -199,7 +199,7 @@ above_zero (a ∷ v) h =
     let some = and_parts (nat_le 1 a.replica) (nat_le a.replica 4294967295) h.0 in
     let above : 1 ≤ a.replica = leb-true 1 a.replica some.0 in (omega (arith, above), above_zero v h.1)
 
--- a vector, where its counters are those of the wire
+-- a vector, if its counters are within the limits of the wire
 pub sent_named : (v : Vector) → IsCanonical v → AreReplicaNumbers v → are_counters v ≡ true → IsSentVector 0 v
 sent_named v canonical typed counters = sent_vector 0 v canonical (above_zero v typed) typed counters
 
@@ -209,7 +209,7 @@ sent_keys (FieldHop n ∷ ks) typed counters = (typed.0, sent_keys ks typed.1 co
 sent_keys (ItemHop a ∷ ks) typed counters =
     let n = and_parts (is_counter a.counter) (list_all key_counted ks) counters in ((n.0, typed.0), sent_keys ks typed.1 n.1)
 
--- what its types keep, and what a caller answers for, is all that a line wants
+-- what its types guarantee, and what a caller answers for, is all that a line needs
 pub typed_sent : (o : Op) → IsNamed o.deps → IsReplicaNumber o.id.replica → AreReplicaNumbers o.deps → IsTypedPlace o.place
     → IsSentMutation (mutation_of o.mutation) → CanBeSent (stamped_of o) → IsSent (stamped_of o)
 typed_sent o named own_typed vector_typed place_typed within sent =

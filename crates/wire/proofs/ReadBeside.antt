@@ -1,4 +1,4 @@
--- What is written of an operation beside a base is read there as that operation.
+-- What is written of an operation relative to a base is read there as that operation.
 use Rattle.std.proofs.Common.{◌≡◌, ◌≤◌, ◌<◌, ◌^◌, ℕ, IsUtf8, nat_le, true, [], ◌∷◌, map, length, Ok, refl, ap, ◌∙◌, arith}
 use Rattle.std.proofs.lemmas.Bool.{and_parts, le-ltb, leb-true, lt-ltb, ne_eqb}
 use Rattle.semantics.specs.Limits.{most_counter, most_replica}

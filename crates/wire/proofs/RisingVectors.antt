@@ -1,4 +1,4 @@
--- Vectors whose replicas rise, with one more pair behind.
+-- Vectors in ascending order of replica, with one more pair at the end.
 use Rattle.std.proofs.Common.{◌≡◌, ◌≢◌, ℕ, ◌<◌, [], ◌∷◌, ◌++◌, Ok, Err, Result, refl, append_assoc}
 use Rattle.std.proofs.lemmas.Bool.{lt-ltb, ne_eqb}
 use Rattle.ids.specs.declared.refusal.Refusal.{Refusal}
@@ -23,7 +23,7 @@ above_there : (p : ℕ) (v w : Vector) (a : OpId) → AreAbove p (v ++ a ∷ w) 
 above_there p [] w a h = h.0
 above_there p (b ∷ v) w a h = above_there p v w a h.1
 
--- what stands before a pair of a canonical vector is below it
+-- what comes before a pair of a canonical vector is below it
 pub below_there : (v w : Vector) (a : OpId) → IsCanonical (v ++ a ∷ w) → AreBelow a.replica v
 below_there [] w a h = tt
 below_there (b ∷ v) w a h = (above_there b.replica v w a h.1, below_there v w a h.2)

@@ -1,4 +1,4 @@
--- The numbers of differences are within their limits, where those of the vector are.
+-- The numbers of differences are within their limits if those of the vector are.
 use Rattle.std.proofs.Common.{◌≡◌, ℕ, ◌≤◌, ◌==◌, nat_le, nat_lt, Bool, true, false, cond, IsTrue, [], ◌∷◌, refl, arith}
 use Rattle.std.specs.Bool.{⊤}
 use Rattle.std.proofs.lemmas.Bool.{and_parts, leb-true}
@@ -50,7 +50,7 @@ both_within : (d : Vector) → AreReplicaNumbers d → AreWithin d → AreSentCh
 both_within [] typed within = tt
 both_within (a ∷ d) typed within = ((typed.0, within.0), both_within d typed.1 within.1)
 
--- what types keep, and what a caller answers for, is all that a line beside a base wants
+-- what types guarantee, and what a caller answers for, is all that a line relative to a base needs
 pub typed_sent_beside : (base : Vector) (o : Op) → IsNamed o.deps → IsReplicaNumber o.id.replica → AreReplicaNumbers (delta base o.deps)
     → IsTypedPlace o.place → IsSentMutation (mutation_of o.mutation) → CanBeSent (stamped_of o) → IsSentBeside base (stamped_of o)
 typed_sent_beside base o named own_typed told_typed place_typed within sent =
@@ -99,7 +99,7 @@ canonical_sent p (a ∷ v) h =
     let some : 1 ≤ a.counter = leb-true 1 a.counter limits.0 in
     ((λ e. omega (arith, some, e)), above_sent a.replica a.replica v (omega arith) h.2, canonical_sent a.replica v h.2)
 
--- an operation that can be sent can be so beside any such base
+-- an operation that can be sent can be sent relative to any such base
 pub sent_is_beside : (base : Vector) (s : Stamped) → IsSentVector 0 base → IsSent s → IsSentBeside base s
 sent_is_beside base s h sent = record {
   id = sent.id;

@@ -1,4 +1,4 @@
--- The differences of a vector from a base rise, and each is another counter than the base has.
+-- The differences of a vector from a base ascend, and the counter of each differs from the base's.
 use Rattle.std.proofs.Common.{◌≡◌, ◌≢◌, ◌⊎◌, inl, inr, ℕ, ◌<◌, ◌==◌, [], ◌∷◌, refl, sym, ap, ◌∙◌, subst, arith}
 use Rattle.std.specs.Bool.{⊤}
 use Rattle.std.proofs.lemmas.Bool.{cases_eq, cases_order, cond-false, ne_eqb}
@@ -8,7 +8,7 @@ use Rattle.semantics.specs.Vectors.{AreAbove, IsCanonical, Vector, at}
 use Rattle.wire.specs.Deltas.{delta}
 use Rattle.wire.proofs.DeltaSteps.{above_delta, above_more, delta_before, delta_lost, delta_other, delta_same}
 
--- replicas rise, and each has another counter in the base
+-- replicas ascend, and each has another counter in the base
 abbrev pub Tells : Vector → Vector → Type 0
 Tells base [] = ⊤
 Tells base (a ∷ d) = AreAbove a.replica d × (at base a.replica ≢ a.counter) × Tells base d
@@ -19,7 +19,7 @@ absent p [] h = refl
 absent p (a ∷ v) h =
     cond-false (a.replica == p) _ _ (ne_eqb a.replica p (λ e. let l : p < a.replica = h.0 in absurd (omega (arith, l, e)))) ∙ absent p v h.1
 
--- a pair of the base that none of these tells of
+-- a pair of the base that none of these is about
 tells_more : (b : OpId) (base d : Vector) → AreAbove b.replica d → Tells base d → Tells (b ∷ base) d
 tells_more b base [] h k = tt
 tells_more b base (a ∷ d) h k =

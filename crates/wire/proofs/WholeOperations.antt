@@ -1,4 +1,4 @@
--- The line of an operation or of a vector that can be sent is read as that operation or vector, where its texts are UTF-8.
+-- The line of an operation or of a vector that can be sent is read as that operation or vector, if its texts are UTF-8.
 use Rattle.std.proofs.Common.{◌≡◌, ◌≤◌, ◌<◌, ◌^◌, ℕ, IsUtf8, nat_le, List, [], ◌∷◌, ◌++◌, length, map, Ok, true, ap, ◌∙◌, arith}
 use Rattle.std.specs.Prelude.{codes, pos, negsuc}
 use Rattle.std.proofs.lemmas.Bool.{and_parts, leb-true}

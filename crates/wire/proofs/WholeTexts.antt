@@ -1,4 +1,4 @@
--- Compact JSON that has whole numbers of 64 bits alone, and no member, is read as it was.
+-- Compact JSON that has only whole numbers of 64 bits, and no member, is read as it was.
 use Rattle.std.proofs.Common.{◌≡◌, ◌≤◌, ◌<◌, ◌^◌, ℕ, suc, max, List, [], Option, Some, inl, inr, refl, sym, ap, ap₂, ◌∙◌, append-nil, arith}
 use Rattle.std.specs.Prelude.{⊤, pos, negsuc, option_and_then}
 use Rattle.std.specs.Fmt.{digits, signed_decimal}

@@ -172,7 +172,7 @@ key_data (FieldName n) = string n
 key_data (ItemId a) = id_json a
 key_data HeadKey = head_json
 
--- as what an element is entered, as it is written
+-- the tag with which an element is entered, as it is written
 abbrev tag_word : Tag → List ℕ
 tag_word AsMap = codes "m"
 tag_word AsList = codes "l"
@@ -282,7 +282,7 @@ at_last f before AsRegister (FieldName n) p h = absurd (cc)
 at_last f before AsRegister (ItemId a) p h = absurd (cc)
 at_last f before AsRegister HeadKey p h = absurd (cc)
 
--- what stands below an element is written so that its parts lead there again, by the list of what was entered
+-- what is below an element is written so that its parts lead there again, along the list of what was entered
 below : (f : Element) (before : Data) (t : Tag) (xs : List Entered) (last : LastKey) (p : Place) → place_below f (Some t) xs last ≡ Ok p
     → LeadTo f before (part_data before t ∷ parts_data xs) (key_data last) p
 below f before t [] last p h = at_last f before t last p h
@@ -448,7 +448,7 @@ fields_in d f h =
     by word xs true is e = λ i. array (item (string (word_is word (codes "op") is i)) (five_in xs f e i))
     by word xs false is e = absurd (cc)
 
--- what the fields are of an operation that was read of them, where its vector was read in this way
+-- the fields of an operation that was read from them, if its vector was read in this way
 pub record AreOf (read : Data → Result Vector Refusal) (f : Fields) (s : Stamped) : Type 0 where
   pub id : f.id ≡ id_json s.id
   pub vector : read f.vector ≡ Ok s.vector

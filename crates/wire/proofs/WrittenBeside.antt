@@ -1,4 +1,4 @@
--- What is read beside a base is the JSON that writing it in one of the profiles gives.
+-- What is read relative to a base is the JSON that writing it in one of the profiles gives.
 use Rattle.std.proofs.Common.{◌≡◌, ◌≢◌, ℕ, ◌<◌, ◌≤◌, ◌&&◌, ◌==◌, not, nat_le, nat_lt, length, Bool, true, false, cond, [], ◌∷◌, map, List}
 use Rattle.std.proofs.Common.{Ok, Err, refl, sym, ap, ◌∙◌, subst, arith}
 use Rattle.std.specs.Prelude.{codes}
@@ -49,7 +49,7 @@ change_in d a h = let xs = made_of change_of (list_form d) a h in list_in d xs.0
         (λ i. array (item (limited_in 4294967295 r p.0 p.1 i) (item (counter_in c n.0 n.1 i) no_items)))
         ∙ ap pair_json (same_ok (id_at n.0 p.0) a n.2)
 
--- a change that is taken is above the one before it, and tells something new
+-- a change that is taken is above the one before it, and changes something
 record IsNext (base : Vector) (p : ℕ) (a b : OpId) : Type 0 where
   same : a ≡ b
   above : p < b.replica
@@ -168,7 +168,7 @@ vector_rises d v h = let xs = made_of pairs_of (list_form d) v h in few xs.0 (na
 
 -- ---- operations
 
--- JSON of an operation beside a base, in one of the profiles, and its vector is a base in turn
+-- JSON of an operation relative to a base, in one of the profiles; and its vector can in turn be a base
 pub record IsIn (base : Vector) (d : Data) (s : Stamped) : Type 0 where
   pub profile : Profile
   pub is : d ≡ json_in profile base s

@@ -57,7 +57,7 @@ ended : (tail : List ℕ) → (tail_readable tail).stopped ≡ None → tail ≡
 ended [] h = refl
 ended (b ∷ tail) h = absurd (cc)
 
--- a line that is read beside a base: JSON of its operation in one of the profiles, whose vector is a base in turn
+-- a line that is read relative to a base: JSON of its operation in one of the profiles, whose vector can in turn be a base
 record IsLine (base : Vector) (line : List ℕ) (s : Stamped) : Type 0 where
   profile : Profile
   is : json_form line ≡ Ok (json_in profile base s)

@@ -1,4 +1,4 @@
--- A list of another length than a form has is no such form.
+-- A list whose length isn't that of a form doesn't have that form.
 use Rattle.std.proofs.Common.{◌≡◌, ◌≢◌, ℕ, List, [], ◌∷◌, length, Err, refl}
 use Rattle.std.proofs.lemmas.Bool.{ltb-true, ltb-false}
 use Rattle.ids.specs.declared.refusal.Refusal.TheVariants.{BadLine}
@@ -57,7 +57,7 @@ five_parts-wrong_length (a ∷ b ∷ d ∷ e ∷ []) h = refl
 five_parts-wrong_length (a ∷ b ∷ d ∷ e ∷ f ∷ []) h = absurd (h refl)
 five_parts-wrong_length (a ∷ b ∷ d ∷ e ∷ f ∷ g ∷ xs) h = refl
 
--- with what a pattern of a slice tests of its length
+-- the same with what a slice pattern tests of its length
 pub ruleset wrong_lengths = (
   ltb-true,
   ltb-false,

@@ -1,4 +1,4 @@
--- What changed from one vector, the base, to another: a pair for each replica whose counter is another one, in both directions of JSON.
+-- What changed from one vector, the base, to another: a pair for each replica whose counter differs, in both directions of JSON.
 use Rattle.std.specs.Prelude.{ℕ, ⊤, ◌≤◌, ◌==◌, ◌&&◌, not, nat_le, nat_lt, cond, if◌then◌else◌, [], ◌∷◌, length, Result, Ok, Err}
 use Rattle.ids.specs.declared.refusal.Refusal.{Refusal}
 use Rattle.ids.specs.declared.refusal.Refusal.TheVariants.{BadLine}
@@ -12,14 +12,15 @@ use Rattle.wire.specs.OpIds.{replica_form}
 
 -- ---- differences
 
--- the differences d from a base, once that has b too: the counter of b's replica only where it is another one, and 0 where there is none
+-- the differences d from a base, once the base has the pair b too: b's replica is in them only if its counter differs, with 0 if it isn't
+-- named
 abbrev pub beside : OpId → Vector → Vector
 beside b [] = id_at 0 b.replica ∷ []
 beside b (a ∷ d) =
     cond (nat_lt a.replica b.replica) (a ∷ beside b d)
     (cond (a.replica == b.replica) (cond (a.counter == b.counter) d (a ∷ d)) (id_at 0 b.replica ∷ a ∷ d))
 
--- the differences of v from a base, beside which each of its pairs is left away that is the same
+-- the differences of v from a base: each pair of the base that v has too is left out
 abbrev pub delta : Vector → Vector → Vector
 delta [] v = v
 delta (b ∷ base) v = beside b (delta base v)
@@ -40,7 +41,7 @@ abbrev pub changed : Vector → Vector → Vector
 changed base [] = base
 changed base (a ∷ d) = with_counter a (changed base d)
 
--- replicas rise, whatever the counters
+-- replicas ascend, whatever the counters
 abbrev pub IsRising : Vector → Type 0
 IsRising [] = ⊤
 IsRising (a ∷ d) = AreAbove a.replica d × IsRising d
@@ -50,7 +51,7 @@ abbrev pub BeginsFrom : ℕ → Vector → Type 0
 BeginsFrom p [] = ⊤
 BeginsFrom p (a ∷ v) = p ≤ a.replica
 
--- what is behind the first pair, where that is of the replica p; else all
+-- the pairs after the first one, if that is of the replica p; else all
 abbrev pub behind : ℕ → Vector → Vector
 behind p [] = []
 behind p (a ∷ v) = if a.replica == p then v else a ∷ v
@@ -71,20 +72,20 @@ change_of _ = Err BadLine
 abbrev pub change_form : Data → Result OpId Refusal
 change_form d = and_then change_of (list_form d)
 
--- the pair, where its replica is above p and has another counter in the base
+-- the pair, if its replica is above p and its counter differs from the base's
 abbrev pub next_change_of : Vector → ℕ → OpId → Result OpId Refusal
 next_change_of base p a = if nat_lt p a.replica && not (at base a.replica == a.counter) then Ok a else Err BadLine
 
--- the pairs, where the replica of each is above p and those before it, and has another counter in the base
+-- the pairs, if the replica of each is above p and those before it, and its counter differs from the base's
 abbrev pub changes_above : Vector → ℕ → Items → Result Vector Refusal
 changes_above base p no_items = Ok []
 changes_above base p (item pair pairs) =
     and_then (λ a. and_then (λ d. Ok (a ∷ d)) (changes_above base a.replica pairs)) (and_then (next_change_of base p) (change_form pair))
 
--- the vector, where it has at most 256 pairs
+-- the vector, if it has at most 256 pairs
 abbrev pub few_of : Vector → Result Vector Refusal
 few_of v = if nat_lt most_named (length v) then Err BadLine else Ok v
 
--- the vector that the base becomes by a list of such pairs
+-- the vector that a list of such pairs makes of the base
 abbrev pub delta_form : Vector → Data → Result Vector Refusal
 delta_form base d = and_then (λ changes. few_of (changed base changes)) (and_then (changes_above base 0) (list_form d))

@@ -12,7 +12,7 @@ use Rattle.serde_json.specs.Read.{read}
 abbrev pub IsOrNoMemory : {T : Type 0} → Result T Refusal → Result T Refusal → Type 0
 IsOrNoMemory r wanted = (r ≡ wanted) ⊎ (r ≡ Err NoMemory)
 
--- what was read means what is wanted, or a refusal is the one that is wanted, or NoMemory
+-- what was read means what is wanted; or it was refused, with the refusal that is wanted or NoMemory
 abbrev pub IsRead : {T U : Type 0} → (T → U) → Result T Refusal → Result U Refusal → Type 0
 IsRead meaning r wanted = MatchResult r (λ x. wanted ≡ Ok (meaning x)) (λ why. IsOrNoMemory (Err why) wanted)
 

@@ -1,4 +1,4 @@
--- Keys, parts of a path and the fields of an operation, as the program keeps them, as those of the definitions.
+-- Keys, parts of a path and the fields of an operation: the program's types as those of the definitions.
 use Rattle.std.specs.Prelude.{ℕ, Option, Some, None}
 use Rattle.semantics.specs.Elements.{Tag}
 use Rattle.operation.specs.cursor.Steps.{tag_of}
@@ -23,12 +23,12 @@ key_meant (Item id) = ItemId id
 abbrev pub part_meant : Part → Entered
 part_meant p = record { key = key_meant p.key; tag = tag_of p.entered }
 
--- as what something was entered, if it was
+-- the tag with which something was entered, if it was
 abbrev pub entered_as : Option TheTag → Option Tag
 entered_as None = None
 entered_as (Some t) = Some (tag_of t)
 
--- how many keys are still to come: one, where something was entered
+-- how many keys are still to come: one, if something was entered
 abbrev pub keys_ahead : Option TheTag → ℕ
 keys_ahead None = 0
 keys_ahead (Some t) = 1

@@ -33,7 +33,7 @@ key_form d = option_map_or field_key (as_str d) (option_map_or item_key (as_arra
 
 -- ---- paths
 
--- a key, and as what the element there is entered
+-- a key, and the tag with which the element there is entered
 pub record Entered : Type 0 where
   pub key : LastKey
   pub tag : Tag
@@ -43,7 +43,7 @@ abbrev pub only_key : Items → Result LastKey Refusal
 only_key (item key no_items) = key_form key
 only_key _ = Err BadLine
 
--- as what an element is entered, by its word
+-- the tag with which an element is entered, by its word
 abbrev pub tag_form : List ℕ → Result Tag Refusal
 tag_form word = if bytes_eq word (codes "m") then Ok AsMap else (if bytes_eq word (codes "l") then Ok AsList else Err BadLine)
 
@@ -83,7 +83,7 @@ is_list_head _ _ = false
 abbrev pub place_at_last : Element → Option Tag → LastKey → Result Place Refusal
 place_at_last e t k = if is_list_head t k then Ok (HeadOf e) else and_then (λ f. Ok (At f)) (element_at e t k)
 
--- the place below e, which what is left of the path and the last key lead to
+-- the place below e to which the rest of the path and the last key lead
 abbrev pub place_below : Element → Option Tag → List Entered → LastKey → Result Place Refusal
 place_below e t [] last = place_at_last e t last
 place_below e t (x ∷ xs) last = and_then (λ f. place_below f (Some x.tag) xs last) (element_at e t x.key)

@@ -1,4 +1,4 @@
--- The two profiles of a line: in profile 2 an operation's vector stands as what changed from a base, the vector of the operation before.
+-- The two profiles of a line: profile 2 writes an operation's vector as what changed from a base, the vector of the operation before.
 use Rattle.std.specs.Prelude.{ℕ, ⊤, ◌≤◌, IsTrue, nat_le, if◌then◌else◌, List, [], ◌∷◌, length, codes, Result, Err}
 use Rattle.std.specs.Str.{bytes_eq}
 use Rattle.ids.specs.declared.refusal.Refusal.{Refusal}
@@ -21,7 +21,7 @@ use Rattle.wire.specs.Vectors.{vector_json}
 
 -- ---- writing
 
--- an operation beside a base: its vector as its differences from that
+-- an operation relative to a base: its vector as its differences from the base
 abbrev pub op2_json : Vector → Stamped → Data
 op2_json base s = phrase (codes "op2")
     (id_json s.id ∷ vector_json (delta base s.vector) ∷ path_json s.place ∷ last_json s.place ∷ mutation_json s.mutation ∷ [])
@@ -30,19 +30,19 @@ op2_json base s = phrase (codes "op2")
 abbrev pub op2_line : Vector → Stamped → List ℕ
 op2_line base s = compact_text (op2_json base s)
 
--- what tells the operation's vector: the whole of it, in profile 1, or its differences from a base, in profile 2
+-- how an operation's vector is written: whole, in profile 1, or as its differences from a base, in profile 2
 pub data Profile : Type 0 where
   Whole : Profile
   Differences : Profile
 
--- an operation beside a base, in a profile
+-- an operation relative to a base, in a profile
 abbrev pub json_in : Profile → Vector → Stamped → Data
 json_in Whole base s = operation_json s
 json_in Differences base s = op2_json base s
 
 -- ---- reading
 
--- the operation of these fields, whose vector stands as what changed
+-- the operation of these fields, whose vector is written as what changed
 abbrev pub fields_beside : Vector → Fields → Result Stamped Refusal
 fields_beside base f = fields_with (delta_form base) f
 
@@ -55,7 +55,7 @@ beside_of base p = if bytes_eq p.0 (codes "op") then and_then fields_of (five_pa
 abbrev pub operation_beside : Vector → Data → Result Stamped Refusal
 operation_beside base d = and_then (beside_of base) (phrase_form d)
 
--- the operation on a line of either profile, beside the vector of the operation before
+-- the operation on a line of either profile, relative to the vector of the operation before
 abbrev pub line_form : Vector → List ℕ → Result Stamped Refusal
 line_form base text = and_then (operation_beside base) (json_form text)
 
@@ -66,7 +66,7 @@ abbrev pub AreSentChanges : Vector → Type 0
 AreSentChanges [] = ⊤
 AreSentChanges (a ∷ d) = (IsReplicaNumber a.replica × IsTrue (nat_le a.counter most_counter)) × AreSentChanges d
 
--- all lengths and numbers are within their limits, where the vector stands as its differences from a base
+-- all lengths and numbers are within their limits, where the vector is written as its differences from a base
 pub record IsSentBeside (base : Vector) (s : Stamped) : Type 0 where
   pub id : IsSentId s.id
   pub canonical : IsCanonical s.vector

@@ -56,13 +56,13 @@ parts_after p = if bytes_eq p.0 (codes "op") then five_parts p.1 else Err BadLin
 abbrev pub fields_form : Data → Result Fields Refusal
 fields_form d = and_then parts_after (phrase_form d)
 
--- what they are, where the vector is read in this way: an id, a vector, a path with its last key, and what is done
+-- the operation of these fields, if the vector is read in this way: an id, a vector, a path with its last key, and what is done
 abbrev pub fields_with : (Data → Result Vector Refusal) → Fields → Result Stamped Refusal
 fields_with read_vector f =
     and_then (λ a. and_then (λ v. and_then (λ p. and_then (λ m. Ok (record { id = a; vector = v; place = p; mutation = m }))
     (mutation_form f.mutation)) (place_form f.path f.last)) (read_vector f.vector)) (id_form f.id)
 
--- what they are, with their whole vector
+-- the operation of these fields, with a whole vector
 abbrev pub fields_of : Fields → Result Stamped Refusal
 fields_of f = fields_with vector_form f
 

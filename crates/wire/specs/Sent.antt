@@ -1,4 +1,4 @@
--- The operations that a line can carry, and what of that types keep.
+-- The operations that a line can carry, and the part of that which types guarantee.
 use Rattle.std.specs.Prelude.{ℕ, ◌<◌, ◌≤◌, ⊤, IsTrue, Bool, true, List, [], ◌∷◌, length}
 use Rattle.std.specs.List.{list_all}
 use Rattle.ids.specs.Configurations.{is_from_one_to}
@@ -17,7 +17,7 @@ use Rattle.operation.specs.value.Forms.{IsWithinLimits}
 abbrev pub IsSentId : OpId → Type 0
 IsSentId a = IsTrue (is_from_one_to most_counter a.counter) × IsTrue (is_from_one_to most_replica a.replica)
 
--- such ids, whose replicas rise above p
+-- such ids, in ascending order of replica, all above p
 abbrev pub IsSentVector : ℕ → Vector → Type 0
 IsSentVector p [] = ⊤
 IsSentVector p (a ∷ v) = (p < a.replica) × IsSentId a × IsSentVector a.replica v
@@ -47,22 +47,22 @@ pub record IsSent (s : Stamped) : Type 0 where
   pub few : depth_of s.place ≤ most_keys
   pub mutation : IsSentMutation s.mutation
 
--- ---- what a caller answers for, and what types keep
+-- ---- what a caller answers for, and what types guarantee
 
--- the counter is one of those on the wire
+-- the counter is within the limits of the wire
 abbrev pub is_counter : ℕ → Bool
 is_counter c = is_from_one_to most_counter c
 
--- the counter of each id is
+-- the counter of each id is within the limits of the wire
 abbrev pub are_counters : Vector → Bool
 are_counters v = list_all (λ a. is_counter a.counter) v
 
--- the key is a field's, or has such a counter
+-- the key is a field's, or its counter is within the limits of the wire
 abbrev pub key_counted : Hop → Bool
 key_counted (FieldHop n) = true
 key_counted (ItemHop a) = is_counter a.counter
 
--- all counters are those of the wire: in its id, its vector and its place
+-- all counters are within the limits of the wire: in its id, its vector and its place
 pub record CanBeSent (s : Stamped) : Type 0 where
   pub id : IsTrue (is_counter s.id.counter)
   pub vector : IsTrue (are_counters s.vector)
@@ -77,7 +77,7 @@ abbrev pub AreReplicaNumbers : Vector → Type 0
 AreReplicaNumbers [] = ⊤
 AreReplicaNumbers (a ∷ v) = IsReplicaNumber a.replica × AreReplicaNumbers v
 
--- what the type of a key keeps: at most 256 bytes of a name, or the number of a replica
+-- what the type of a key guarantees: a name of at most 256 bytes, or the number of a replica
 abbrev pub IsTypedKey : Hop → Type 0
 IsTypedKey (FieldHop n) = length n ≤ most_key_bytes
 IsTypedKey (ItemHop a) = IsReplicaNumber a.replica
@@ -87,7 +87,7 @@ abbrev pub AreTypedKeys : List Hop → Type 0
 AreTypedKeys [] = ⊤
 AreTypedKeys (k ∷ ks) = IsTypedKey k × AreTypedKeys ks
 
--- what the types of a place keep
+-- what the types of a place guarantee
 pub record IsTypedPlace (p : Place) : Type 0 where
   pub keys : AreTypedKeys (hops_from_root (element_of p))
   pub few : depth_of p ≤ most_keys

@@ -22,17 +22,17 @@ pair_of _ = Err BadLine
 abbrev pub pair_form : Data → Result OpId Refusal
 pair_form d = and_then pair_of (list_form d)
 
--- the id, where its replica is above p
+-- the id, if its replica is above p
 abbrev pub next_of : ℕ → OpId → Result OpId Refusal
 next_of p a = if nat_lt p a.replica then Ok a else Err BadLine
 
--- the pairs, where the replica of each is above p and those before it
+-- the pairs, if the replica of each is above p and those before it
 abbrev pub pairs_above : ℕ → Items → Result Vector Refusal
 pairs_above p no_items = Ok []
 pairs_above p (item pair pairs) =
     and_then (λ a. and_then (λ v. Ok (a ∷ v)) (pairs_above a.replica pairs)) (and_then (next_of p) (pair_form pair))
 
--- at most 256 pairs, whose replicas rise
+-- at most 256 pairs, in ascending order of replica
 abbrev pub pairs_of : Items → Result Vector Refusal
 pairs_of pairs = if nat_lt most_named (count_parts pairs) then Err BadLine else pairs_above 0 pairs
 

@@ -1,4 +1,4 @@
--- What a writer of tokens has, once JSON was written after what it had.
+-- What a token writer's text is, after JSON was written to it.
 use Rattle.std.specs.Prelude.{◌≡◌, List, ◌++◌, Option, Some, None}
 use Rattle.std.specs.Borrow.{Bor}
 use Rattle.json.specs.Token.{Token}
@@ -20,7 +20,7 @@ tokens_of d = json_tokens (outline d)
 abbrev pub tokens_of_all : List Data → List Token
 tokens_of_all ds = items_tokens (items_outline (items_of ds))
 
--- these tokens stand after those that were there, in the same text
+-- these tokens follow the ones that were there, in the same text
 pub record IsWritten (ts : List Token) (old new : Written) : Type 0 where
   pub tokens : new.tokens ≡ old.tokens ++ ts
   pub before : new.before ≡ old.before

@@ -1,4 +1,4 @@
-//! Bundles: operations that are sent together, one a line, each line with its line feed. They are written in profile 2, and read in
+//! Bundles: operations that are sent together, one per line, each line with its line feed. They are written in profile 2, and read in
 //! either profile.
 
 ghost use Rattle.std.specs.Prelude.{◌≡◌, ◌⊎◌, ◌++◌, ℕ, List, [], Some, Ok, IfOk, MatchResult, length, map, take};
@@ -22,10 +22,10 @@ use ids::{OpId, Refusal};
 use operation::{Op, Shared};
 use std::alloc::{AllocError, Global};
 
-/// The lines of the operations, in order, in profile 2: each tells its vector as what changed since the operation before, the first one
-/// since the empty vector. An empty bundle has no byte. Where all counters are those of the wire, `read_bundle` reads the same operations,
-/// of the whole text or of its first lines; lines without those before them are another bundle. In time and memory in proportion to the
-/// text and the vectors.
+/// The lines of the operations, in order, in profile 2: each has its vector as what changed since the operation before, the first one since
+/// the empty vector. An empty bundle has no bytes. If all counters are within the limits of the wire, `read_bundle` reads the same
+/// operations from the whole text, or from its first lines; lines without those before them are another bundle. Takes time and memory in
+/// proportion to the text and the vectors.
 ///
 /// # Errors
 /// `AllocError` if allocation fails.
@@ -37,7 +37,8 @@ pub fn write_bundle(alloc: Global, ops: &[Shared<Op>]) -> Result<Vec<u8>, AllocE
 {
     let mut text = Vec::new(alloc);
     let mut base: &[OpId] = &[];
-    // A line is written apart, and copied: the writer clears the room that its text has left, which for a long text is much.
+    // Each line is written to a buffer of its own and copied: the writer clears its buffer's spare capacity, which is large for a long
+    // text.
     let mut line = Vec::new(alloc);
     for op in ops {
         line.clear();
@@ -54,14 +55,14 @@ pub fn write_bundle(alloc: Global, ops: &[Shared<Op>]) -> Result<Vec<u8>, AllocE
 pub struct LinesRead {
     /// The operations of the lines before the first bad one, in their order.
     pub ops: Vec<Shared<Op>>,
-    /// Why the line after those is bad, or `None` where the whole text was read.
+    /// Why the line after those is bad, or `None` if the whole text was read.
     pub stopped: Option<Refusal>,
 }
 
-/// The operations of a bundle, of lines in either profile, as far as it can be read.
+/// The operations of a bundle whose lines are in either profile, as far as it can be read.
 ///
-/// Reading stops at the first bad line, with the refusal of `BundleReader::read`; bytes after the last line feed are a bad line,
-/// `BadLine`. It also stops with `NoMemory` if allocation fails: what was read until then is kept.
+/// Reading stops at the first bad line, with the refusal of `BundleReader::read`; bytes after the last line feed are a bad line, `BadLine`.
+/// It also stops with `NoMemory` if allocation fails: what was read before that is kept.
 pub fn read_lines(alloc: Global, text: &[u8]) -> LinesRead
     ensures read { (result.stopped ≡ Some NoMemory)
         ⊎ ((map stamped_of result.ops.items ≡ (readable [] text.now).operations)
@@ -96,7 +97,7 @@ pub fn read_lines(alloc: Global, text: &[u8]) -> LinesRead
     LinesRead { ops, stopped }
 }
 
-/// The operations of a bundle, of lines in either profile, in order.
+/// The operations of a bundle whose lines are in either profile, in order.
 ///
 /// # Errors
 /// The number of the first bad line, from 1, with the refusal of `BundleReader::read`; bytes after the last line feed are a bad line,
@@ -112,9 +113,9 @@ pub fn read_bundle(alloc: Global, text: &[u8]) -> Result<Vec<Shared<Op>>, (u64, 
     }
 }
 
-/// Lines of either profile, each of which is read as its operation beside the vector of the one before it, are read as these operations,
-/// also where more follows them: that is read beside the vector of the last one. So are those of operations whose lengths and numbers are
-/// within their limits, beside any base that a line can carry. A bundle is such lines, all of profile 2.
+/// If each of these lines, of either profile, is read as its operation relative to the vector of the one before it, then the text of the
+/// lines is read as these operations, whatever follows it; what follows is read relative to the last vector. Operations whose lengths and
+/// numbers are within their limits have such lines, relative to any base that a line can carry. A bundle is such lines, all of profile 2.
 pub fn bundles_are_read_back()
     ensures whole { (base : Vector) (ls : List (Profile × Stamped)) → AreReadBack base ls
         → bundle_form base (lines_text (jsons_in base ls)) ≡ Ok (map (λ l. l.1) ls) }
@@ -130,7 +131,7 @@ pub fn bundles_are_read_back()
         → bundle_text base ss ≡ lines_text (jsons_in base (map (λ s. (Differences, s)) ss)) }
 {}
 
-/// A text that is read as a bundle is whole lines, each with the JSON that writing its operation in one of the profiles gives.
+/// A text that is read as a bundle consists of whole lines, each with the JSON that writing its operation in one of the profiles gives.
 pub fn bundles_are_written_alike()
     ensures lines { (base : Vector) (text : List ℕ) (ss : List Stamped) → IsCanonical base → bundle_form base text ≡ Ok ss
         → (ls : List (Profile × Stamped)) × (map (λ l. l.1) ls ≡ ss)

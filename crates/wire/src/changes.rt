@@ -1,4 +1,4 @@
-//! What changed from a base, read of JSON: a list of pairs of a replica and the counter that it has now.
+//! What changed from a base, read from JSON: a list of pairs of a replica and its new counter.
 #![tactic(auto, using(crate::proofs::WrongLengths::wrong_lengths))]
 
 ghost use Rattle.std.specs.Prelude.{◌≡◌, ◌==◌, IfOk};
@@ -14,11 +14,11 @@ use ids::{MOST_COUNTER, NamedVector, OpId, Refusal, counter_of};
 use serde_json::Value;
 use std::alloc::Global;
 
-/// The vector that a base becomes by a list of changes.
+/// The vector that a list of changes makes of a base.
 ///
 /// # Errors
-/// `BadLine` if it is no list, if it has a pair whose form is wrong, which doesn't rise or whose counter is the base's, or if the vector
-/// has more than 256 pairs then. `NoMemory` if allocation fails.
+/// `BadLine` if it is no list, if it has a pair of another form, out of ascending order or with the base's own counter, or if the resulting
+/// vector has more than 256 pairs. `NoMemory` if allocation fails.
 pub(crate) fn delta_in(alloc: Global, base: &[OpId], value: &Value) -> Result<NamedVector, Refusal>
     requires { IsCanonical base.now }
     ensures { IsRead (λ v. v) result (delta_form base.now (view value.now)) }
@@ -27,7 +27,7 @@ pub(crate) fn delta_in(alloc: Global, base: &[OpId], value: &Value) -> Result<Na
     changed(alloc, base, changes.as_slice())
 }
 
-/// The changes of these pairs, each of which has a search in the base.
+/// The changes of these pairs. Costs a binary search of the base for each.
 fn changes_in(alloc: Global, base: &[OpId], pairs: &[Value]) -> Result<Vec<OpId>, Refusal>
     requires { IsCanonical base.now }
     ensures read { IsRead (λ changes. changes.items) result (changes_above base.now 0 (items_view pairs.now)) }
@@ -47,7 +47,7 @@ fn changes_in(alloc: Global, base: &[OpId], pairs: &[Value]) -> Result<Vec<OpId>
     Ok(changes)
 }
 
-/// Whether the base has this counter of the replica, 0 where it doesn't name it.
+/// Whether the base has this counter for the replica, which is 0 if it doesn't name it.
 fn is_in(base: &[OpId], change: &OpId) -> bool
     requires { IsCanonical base.now }
     ensures { result ≡ (at base.now change.now.replica == change.now.counter) }
@@ -55,7 +55,7 @@ fn is_in(base: &[OpId], change: &OpId) -> bool
     counter_of(base, change.replica) == change.counter
 }
 
-/// The pair of a replica and the counter that it has now.
+/// The pair of a replica and its new counter.
 fn change_in(value: &Value) -> Result<OpId, Refusal>
     ensures { result ≡ change_form (view value.now) }
 {

@@ -1,5 +1,5 @@
-//! What changed from one vector, the base, to another: a pair for each replica whose counter is another one, with the counter 0 where
-//! it isn't named any more. Both vectors are passed once, side by side.
+//! What changed from one vector, the base, to another: a pair for each replica whose counter differs, with the counter 0 if it isn't named
+//! any more. Both vectors are passed once, side by side.
 
 ghost use Rattle.std.specs.Prelude.{◌≡◌, ◌==◌, ◌<◌, ◌∷◌, ℕ, if◌then◌else◌, MatchOption};
 ghost use Rattle.ids.specs.Vectors.{IsCanonical, at};
@@ -12,7 +12,7 @@ use ids::{MOST_NAMED, NamedVector, OpId, Refusal, ReplicaId};
 use std::alloc::Global;
 use std::marker::Model;
 
-/// The differences of a vector from a base that are left, the lowest replica first.
+/// The remaining differences of a vector from a base, the lowest replica first.
 #[derive(Drop)]
 pub(crate) struct Differences<'a> {
     base: &'a [OpId],
@@ -86,7 +86,7 @@ fn not_named(id: &OpId) -> OpId
     }
 }
 
-/// The pairs of a base with its changes that are left, the lowest replica first.
+/// The remaining pairs of a base with its changes, the lowest replica first.
 #[derive(Drop)]
 struct ChangedPairs<'a> {
     base: &'a [OpId],
@@ -143,7 +143,7 @@ impl<'a> Iterator for ChangedPairs<'a> {
     }
 }
 
-/// The first pair and the others, where its replica is below this one.
+/// The first pair and the others, if the first one's replica is below this one.
 fn split_below(ids: &[OpId], replica: ReplicaId) -> Option<(&OpId, &[OpId])>
     ensures { MatchOption result (BeginsFrom replica ids.entry.now)
         (λ p. (ids.entry.now ≡ p.0.now ∷ p.1.now) × (p.0.now.replica < replica)) }
@@ -155,7 +155,7 @@ fn split_below(ids: &[OpId], replica: ReplicaId) -> Option<(&OpId, &[OpId])>
     None
 }
 
-/// What is behind the first pair, where that is of this replica; else all.
+/// The pairs after the first one, if that is of this replica; else all.
 pub(crate) fn behind(ids: &[OpId], replica: ReplicaId) -> &[OpId]
     ensures { result.now ≡ behind replica ids.entry.now }
 {
@@ -165,7 +165,7 @@ pub(crate) fn behind(ids: &[OpId], replica: ReplicaId) -> &[OpId]
     }
 }
 
-/// The vector that a base becomes by these changes. Passes both once, and asks for room once.
+/// The vector that these changes make of a base. Passes both once, and reserves once.
 ///
 /// # Errors
 /// `BadLine` if it has more than 256 pairs, or `NoMemory` if allocation fails.
@@ -189,7 +189,7 @@ pub(crate) fn changed(
     Ok(vector)
 }
 
-/// A canonical vector is its base with its differences, where a change gives its replica its counter, and leaves the others.
+/// A canonical vector is its base with its differences; a change sets its replica's counter, and leaves the others.
 pub fn vectors_are_their_differences()
     ensures counters { (a : OpId) (v : Vector) (p : ℕ) → IsCanonical v
         → at (with_counter a v) p ≡ (if a.replica == p then a.counter else at v p) }

@@ -1,11 +1,11 @@
-//! The texts of a line with their escapes undone, as JSON's writer makes them.
+//! The texts of a line with their escapes undone, as the JSON writer makes them.
 
 ghost use Rattle.std.specs.Prelude.{◌<◌, length, IfSome};
 
 use std::alloc::Global;
 
-/// How many bytes stand before the text's closing quote, the first one that isn't escaped. `None` where it isn't closed. Looks at each of
-/// these bytes.
+/// How many bytes precede the text's closing quote, the first one that isn't escaped. `None` if there is none. Looks at each of these
+/// bytes.
 pub(crate) fn closed_at(text: &[u8]) -> Option<usize>
     ensures { IfSome result (λ end. end < length text.now) }
 {
@@ -22,8 +22,8 @@ pub(crate) fn closed_at(text: &[u8]) -> Option<usize>
     None
 }
 
-/// The text of these bytes. `None` where one is escaped by its number, as few are, or in a way in which no line is written, or where
-/// memory is refused.
+/// The text of these bytes. `None` if one is escaped by its number, which is rare, or in a way that the writer doesn't use, or if
+/// allocation fails.
 pub(crate) fn unescaped(alloc: Global, bytes: &[u8]) -> Option<Vec<u8>> {
     let mut text = Vec::with_capacity(alloc, bytes.len()).ok()?;
     let mut is_escaped = false;
@@ -45,7 +45,7 @@ pub(crate) fn unescaped(alloc: Global, bytes: &[u8]) -> Option<Vec<u8>> {
     Some(text)
 }
 
-/// The byte that a letter stands for behind a backslash.
+/// The byte that a letter means after a backslash.
 fn escaped_by(letter: u8) -> Option<u8> {
     match letter {
         b'"' | b'\\' => Some(letter),

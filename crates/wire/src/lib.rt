@@ -1,5 +1,5 @@
-//! The wire: operations, version vectors and bundles of operations, as lines of JSON. The lines of a text and the parts of a line are
-//! read by the same functions for scripts.
+//! The wire: operations, version vectors and bundles of operations, as lines of JSON. Scripts are read by the same functions, from the
+//! lines of a text to the parts of a line.
 #![tactic(auto)]
 
 mod bundles;

@@ -17,7 +17,7 @@ pub struct Line<'a> {
     pub text: &'a [u8],
 }
 
-/// The lines of a text that are left.
+/// The remaining lines of a text.
 #[derive(Debug, Drop)]
 pub struct Lines<'a> {
     /// How many lines were taken.

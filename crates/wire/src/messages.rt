@@ -25,10 +25,10 @@ use operation::{Op, Shared};
 use serde_json::Value;
 use std::alloc::{AllocError, Global};
 
-/// Room for a line of usual length.
+/// Capacity for a line of usual length.
 pub(crate) const LINE_BYTES: usize = 128;
 
-/// The line of an operation. Where its counters are those of the wire, `read_op` reads it as the same operation.
+/// The line of an operation. If its counters are within the limits of the wire, `read_op` reads it as the same operation.
 ///
 /// # Errors
 /// `AllocError` if allocation fails.
@@ -40,7 +40,7 @@ pub fn write_op(alloc: Global, op: &Op) -> Result<Vec<u8>, AllocError>
     with_line(Vec::with_capacity(alloc, LINE_BYTES)?, op)
 }
 
-/// The line of a vector, a hello. Where its counters are those of the wire, `read_vector` reads it as the same vector.
+/// The line of a vector, a hello. If its counters are within the limits of the wire, `read_vector` reads it as the same vector.
 ///
 /// # Errors
 /// `AllocError` if allocation fails.
@@ -68,9 +68,10 @@ fn put_hello(out: &mut Writer, vector: &NamedVector) -> Result<(), AllocError>
 
 /// The operation on a line.
 ///
-/// A line as `write_op` writes it is read at once, unless a character in it is escaped by its number, it has the least whole number, or
-/// it is longer than 32 KB. Any other is parsed as JSON as a whole before its parts are looked at. Time and memory are proportional to
-/// its length: whoever takes lines from others bounds their length first. JSON nested deeper than 127 lists and objects is refused.
+/// A line in the form that `write_op` writes is read directly, unless a character in it is escaped by its number, it has the least whole
+/// number, or it is longer than 32 KB. Any other line is parsed whole as JSON before its parts are looked at. Takes time and memory in
+/// proportion to its length: whoever takes lines from others must bound their length first. JSON nested deeper than 127 lists and objects
+/// is refused.
 ///
 /// # Errors
 /// The first fault in this order: `BadLine` if the text is no JSON, or no list of six that begins with `op`; then the faults of the
@@ -84,7 +85,7 @@ pub fn read_op(alloc: Global, text: &[u8]) -> Result<Shared<Op>, Refusal>
     Ok(Shared::new(alloc, op)?)
 }
 
-/// The operation on a line: at once where the line is as it would be written, else as that of any JSON.
+/// The operation on a line: read directly if the line is as it would be written, else as any JSON.
 fn op_in(alloc: Global, text: &[u8]) -> Result<Op, Refusal>
     ensures { IsRead stamped_of result (op_form text.now) }
 {
@@ -98,8 +99,8 @@ fn op_in(alloc: Global, text: &[u8]) -> Result<Op, Refusal>
 /// The vector on a line.
 ///
 /// # Errors
-/// `BadLine` if the text is no JSON or not a hello, or if its vector has more than 256 pairs, or one that has another form or doesn't rise.
-/// `NoMemory` if allocation fails.
+/// `BadLine` if the text is no JSON or no hello, or if its vector has more than 256 pairs, or one of another form or out of ascending
+/// order. `NoMemory` if allocation fails.
 pub fn read_vector(alloc: Global, text: &[u8]) -> Result<NamedVector, Refusal>
     ensures { IsRead (λ v. v) result (hello_form text.now) }
 {

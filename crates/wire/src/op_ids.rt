@@ -1,4 +1,4 @@
-//! Ids of operations, as they are read.
+//! Reading the ids of operations.
 #![tactic(auto, using(crate::proofs::WrongLengths::wrong_lengths))]
 
 ghost use Rattle.std.specs.Prelude.{◌≡◌, ◌≤◌, IfOk};

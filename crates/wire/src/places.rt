@@ -1,4 +1,4 @@
-//! Places, as they are read: a path of keys with the tag of what is entered at each, and a last key.
+//! Reading places: a path of keys with the tag of what is entered at each, and a last key.
 #![tactic(auto, using(crate::proofs::WrongLengths::wrong_lengths))]
 
 ghost use Rattle.std.specs.Prelude.{◌≡◌, ◌≤◌, ◌+◌, ℕ, None, IfOk, MatchResult, length, map};
@@ -124,7 +124,7 @@ fn numbered_key(number: u64) -> Result<WrittenKey, Refusal>
     }
 }
 
-/// The place that the parts, which begin with the root, and a last key lead to.
+/// The place to which the parts, which begin with the root, and a last key lead.
 fn place_of(alloc: Global, parts: Vec<Part>, last: WrittenKey) -> Result<Place, Refusal>
     requires { length parts.items ≤ most_keys }
     ensures { IsOrNoMemory result (place_below Doc None (map part_meant parts.items) (key_meant last)) }
@@ -138,7 +138,7 @@ fn place_of(alloc: Global, parts: Vec<Part>, last: WrittenKey) -> Result<Place, 
     place_at_last(hops, entered, last)
 }
 
-/// Appends the hop to a key of the map or the list here. The root, where nothing is entered, is no hop.
+/// Appends the hop to a key of the map or the list here. The root, if nothing is entered, is no hop.
 fn enter(hops: &mut Vec<Hop>, entered: Option<Tag>, key: WrittenKey) -> Result<(), Refusal>
     ensures element { MatchResult result
         (λ _. element_at (down Doc (map hop_of hops.old.items)) (entered_as entered) (key_meant key)

@@ -1,5 +1,5 @@
-//! The lines of a bundle, one after another: profile 2 tells each operation's vector as what changed since the operation before. A reader
-//! takes lines of profile 1 too, whose vectors stand whole.
+//! The lines of a bundle, one after another: profile 2 has each operation's vector as what changed since the operation before. A reader
+//! takes lines of profile 1 too, which have their vectors whole.
 
 ghost use Rattle.std.specs.Prelude.{◌≡◌, [], Ok, IfOk, IfSome, IsUtf8, MatchResult};
 ghost use Rattle.std.specs.Option.{option_map_or};
@@ -51,13 +51,13 @@ impl BundleReader {
 
     /// The operation on the next line, of either profile. A line that is refused leaves the reader as it was.
     ///
-    /// A line as it is written is read at once, and any other as JSON, as `read_op` does: in time and memory in proportion to its length
-    /// and that of the base. The reader shares the operation, and lets it go with the next one.
+    /// A line in the form in which it is written is read directly, and any other as JSON, as `read_op` does, in time and memory in
+    /// proportion to its length and that of the base. The reader holds the operation, shared, until the next one replaces it.
     ///
     /// # Errors
-    /// The first fault in the order of `read_op`, where a list of six may begin with `op2` too. There the vector's faults are, all
-    /// `BadLine`: the first pair from the left whose form is wrong, which doesn't rise or whose counter is the base's, and then more than
-    /// 256 pairs in the vector that the base becomes. `NoMemory` if allocation fails.
+    /// The first fault in the order of `read_op`, except that a list of six may begin with `op2` too. Its vector has these faults, all
+    /// `BadLine`: the first pair from the left of another form, out of ascending order or with the base's own counter, and then a resulting
+    /// vector of more than 256 pairs. `NoMemory` if allocation fails.
     pub fn read(&mut self, alloc: Global, line: &[u8]) -> Result<Shared<Op>, Refusal>
         ensures read { IsRead stamped_of result (line_form self.old line.now) }
         ensures base { MatchResult result (λ o. self.new ≡ o.deps) (λ _. self.new ≡ self.old) }
@@ -67,7 +67,7 @@ impl BundleReader {
         Ok(op)
     }
 
-    /// The operation on the next line, as `read` gives it. The reader stays as it was: `keep` takes the operation up, once its line counts
+    /// The operation on the next line, as `read` gives it. The reader stays as it was: call `keep` with the operation once its line counts
     /// as read.
     ///
     /// # Errors
@@ -78,7 +78,7 @@ impl BundleReader {
         Ok(Shared::new(alloc, op_beside(alloc, self.base(), line)?)?)
     }
 
-    /// Takes up an operation as the last one that was read: the next line is beside its vector.
+    /// Makes this operation the last one that was read: the next line is relative to its vector.
     pub fn keep(&mut self, op: Shared<Op>)
         ensures { self.new ≡ op.deps }
     {
@@ -124,11 +124,11 @@ impl BundleWriter {
         }
     }
 
-    /// The operation's line, without a line feed. Where its counters are those of the wire, a reader with the same base reads it as the
-    /// same operation. Passes its vector and the base once; the writer keeps room for the longest vector that it wrote.
+    /// The operation's line, without a line feed. If its counters are within the limits of the wire, a reader with the same base reads it
+    /// as the same operation. Passes its vector and the base once; the writer keeps capacity for the longest vector that it wrote.
     ///
     /// # Errors
-    /// `AllocError` if allocation fails. The writer is as before then.
+    /// `AllocError` if allocation fails. The writer is then unchanged.
     pub fn write(&mut self, alloc: Global, op: &Op) -> Result<Vec<u8>, AllocError>
         ensures line { IfOk result (λ text. text.items ≡ op2_line self.old (stamped_of op.now)) }
         ensures base { MatchResult result (λ _. self.new ≡ op.now.deps) (λ _. self.new ≡ self.old) }
@@ -142,7 +142,7 @@ impl BundleWriter {
     }
 }
 
-/// The operation on a line of either profile beside a base: at once where the line is as it would be written, else as that of any JSON.
+/// The operation on a line of either profile relative to a base: read directly if the line is as it would be written, else as any JSON.
 fn op_beside(alloc: Global, base: &[OpId], line: &[u8]) -> Result<Op, Refusal>
     requires { IsCanonical base.now }
     ensures { IsRead stamped_of result (line_form base.now line.now) }
@@ -165,7 +165,7 @@ fn written_op(alloc: Global, base: &[OpId], line: &[u8]) -> Option<Op>
     read_canonical(alloc, line)
 }
 
-/// Puts these ids in place of what the base has. Room is asked for before anything changes.
+/// Replaces the base by these ids. Reserves before anything changes.
 fn replace(base: &mut Vec<OpId>, ids: &[OpId]) -> Result<(), AllocError>
     ensures { MatchResult result (λ _. base.new.items ≡ ids.now) (λ _. base.new.items ≡ base.old.items) }
 {
@@ -174,8 +174,8 @@ fn replace(base: &mut Vec<OpId>, ids: &[OpId]) -> Result<(), AllocError>
     base.extend_from_slice(ids)
 }
 
-/// The line of an operation beside a base, all of whose lengths and numbers are within their limits and whose texts are UTF-8, is read
-/// there as that operation.
+/// An operation's line relative to a base is read there as that operation, if all lengths and numbers are within their limits and its texts
+/// are UTF-8.
 pub fn lines_beside_are_read_back()
     ensures { (base : Vector) (s : Stamped) → IsCanonical base → IsSentBeside base s → IsUtf8 (op2_line base s)
         → line_form base (op2_line base s) ≡ Ok s }

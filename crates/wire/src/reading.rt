@@ -1,4 +1,4 @@
-//! Operations, as they are read: first their fields unread, and then each field by a method of its own.
+//! Reading operations: first their fields, still unread, and then each field by a method of its own.
 #![tactic(auto, using(crate::proofs::WrongLengths::wrong_lengths))]
 
 ghost use Rattle.std.specs.Prelude.{◌≡◌, MatchResult, Ok, Err};
@@ -28,14 +28,14 @@ use std::alloc::Global;
 /// The operation of a JSON value, as on a line of the first profile. The first fault from the left decides.
 ///
 /// # Errors
-/// Those of `read_op` behind its first.
+/// Those of `read_op` after its first.
 pub fn operation_in(alloc: Global, value: &Value) -> Result<Op, Refusal>
     ensures { IsRead stamped_of result (operation_form (view value.now)) }
 {
     OperationFields::of(value)?.operation(alloc)
 }
 
-/// The operation of a JSON value of either profile, beside a base. The first fault from the left decides.
+/// The operation of a JSON value of either profile, relative to a base. The first fault from the left decides.
 pub(crate) fn operation_beside(alloc: Global, base: &[OpId], value: &Value) -> Result<Op, Refusal>
     requires { IsCanonical base.now }
     ensures { IsRead stamped_of result (operation_beside base.now (view value.now)) }
@@ -48,8 +48,8 @@ pub(crate) fn operation_beside(alloc: Global, base: &[OpId], value: &Value) -> R
     }
 }
 
-/// The fields of an operation, unread. Each method reads its own field and gives that field's refusals alone, so another way to
-/// write one of them takes one more method here.
+/// The fields of an operation, unread. Each method reads its own field and returns that field's refusals alone, so another way to write one
+/// of them takes one more method here.
 #[derive(Drop)]
 struct OperationFields<'a> {
     id: &'a Value,
@@ -104,7 +104,7 @@ impl<'a> OperationFields<'a> {
         })
     }
 
-    /// The operation whose vector stands as what changed from a base.
+    /// The operation whose vector is written as what changed from a base.
     fn operation_beside(&self, alloc: Global, base: &[OpId]) -> Result<Op, Refusal>
         requires { IsCanonical base.now }
         ensures { IsRead stamped_of result (fields_beside base.now (fields_meant self.now)) }

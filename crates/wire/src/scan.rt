@@ -1,8 +1,8 @@
 //! The bytes of a line, taken apart in the one form in which an operation is written, of either profile.
 //!
-//! Nothing is asked of what these methods find, since it is written again and compared: commas, tags and the end of a line are passed
-//! without much care. Each takes a number of steps that its part of the line bounds, with the base where a vector stands beside one, and
-//! none calls itself.
+//! These methods needn't be right, since what they find is written again and compared: commas, tags and the end of a line are barely
+//! checked. Each takes a number of steps bounded by its part of the line, plus the base where a vector is relative to one, and none calls
+//! itself.
 
 ghost use Rattle.std.specs.Bool.{OnTrue};
 ghost use Rattle.ids.specs.Vectors.{AreBelow, IsCanonical};
@@ -14,13 +14,13 @@ use memchr::{memchr, memmem};
 use operation::{Hop, Key, MOST_KEYS, Mutation, Op, Place, Scalar, Val};
 use std::alloc::Global;
 
-/// The most digits that a number of 64 bits has.
+/// The most digits of a 64-bit number.
 const MOST_DIGITS: usize = 20;
 
 /// The most pairs that can differ between two vectors.
 const MOST_CHANGES: usize = 2 * MOST_NAMED;
 
-/// The bytes of a line that are left. Each method takes its part off the front, or gives up.
+/// The remaining bytes of a line. Each method takes its part off the front, or gives up.
 #[derive(Drop)]
 pub(crate) struct Scan<'a> {
     rest: &'a [u8],
@@ -37,7 +37,7 @@ impl<'a> Scan<'a> {
         }
     }
 
-    /// The operation with its whole vector. `None` where the line has another form, or where memory is refused.
+    /// The operation with its whole vector. `None` if the line has another form, or if allocation fails.
     pub(crate) fn op(&mut self, alloc: Global) -> Option<Op> {
         self.bytes(b"[\"op\",")?;
         let id = self.id()?;
@@ -45,7 +45,7 @@ impl<'a> Scan<'a> {
         self.op_with(alloc, id, deps)
     }
 
-    /// The operation whose vector stands as what changed from a base. `None` as above.
+    /// The operation whose vector is written as what changed from a base. `None` as above.
     pub(crate) fn op_beside(&mut self, alloc: Global, base: &[OpId]) -> Option<Op>
         requires { IsCanonical base.now }
     {
@@ -73,7 +73,7 @@ impl<'a> Scan<'a> {
         id_of(counter, replica)
     }
 
-    /// The vector, after its comma. Room for its pairs is asked for at once.
+    /// The vector, after its comma. Reserves for all its pairs at once.
     fn vector(&mut self, alloc: Global) -> Option<NamedVector> {
         self.bytes(b",[")?;
         let mut vector = NamedVector::with_capacity(alloc, self.count_pairs()?).ok()?;
@@ -95,8 +95,7 @@ impl<'a> Scan<'a> {
         Some(vector)
     }
 
-    /// The vector that a base becomes by the changes after their comma: pairs whose counter may be 0. Passes both once, and asks for room
-    /// once.
+    /// The vector that the changes make of a base, after their comma: pairs whose counter may be 0. Passes both once, and reserves once.
     fn changed_vector(&mut self, alloc: Global, base: &[OpId]) -> Option<NamedVector> {
         self.bytes(b",[")?;
         let most = base.len().saturating_add(self.count_pairs()?);
@@ -116,7 +115,7 @@ impl<'a> Scan<'a> {
         Some(vector)
     }
 
-    /// How many pairs a vector has: as many brackets open before the first two that close together.
+    /// How many pairs a vector has: the opening brackets before the first two closing ones in a row.
     fn count_pairs(&self) -> Option<usize> {
         if self.peek()? == b']' {
             return Some(0);
@@ -152,7 +151,7 @@ impl<'a> Scan<'a> {
         Place::new(hops, is_head).ok()
     }
 
-    /// Appends the hops of a path and of its last key. Whether that is the key of a head.
+    /// Appends the hops of a path and of its last key. Returns whether that key is a head's.
     fn hops(&mut self, alloc: Global, hops: &mut Vec<Hop>) -> Option<bool> {
         self.bytes(b",[")?;
         for _ in 0..MOST_KEYS {
@@ -166,7 +165,7 @@ impl<'a> Scan<'a> {
         self.key(alloc, hops)
     }
 
-    /// Appends the hop of a part of a path. Its tag says no more than the next key.
+    /// Appends the hop of a part of a path. The tag is skipped: the next key implies it.
     fn part(&mut self, alloc: Global, hops: &mut Vec<Hop>) -> Option<()> {
         self.bytes(b"[\"")?;
         if !self.takes(b'm') {
@@ -177,7 +176,7 @@ impl<'a> Scan<'a> {
         self.byte(b']')
     }
 
-    /// Appends the hop of a key. The root has none, and a head has none. Whether it is the key of a head.
+    /// Appends the hop of a key; the root and a head have none. Returns whether the key is a head's.
     fn key(&mut self, alloc: Global, hops: &mut Vec<Hop>) -> Option<bool> {
         if self.takes(b'0') {
             return Some(false);
@@ -200,7 +199,7 @@ impl<'a> Scan<'a> {
         Some(Hop::Field(self.name(alloc)?))
     }
 
-    /// The mutation, after its comma, as far as its value. What ends the line is left.
+    /// The mutation, after its comma, up to the end of its value. What ends the line is left.
     fn mutation(&mut self, alloc: Global) -> Option<Mutation> {
         self.bytes(b",[\"")?;
         if self.takes(b'd') {
@@ -257,7 +256,7 @@ impl<'a> Scan<'a> {
         Val::text(alloc, str::from_utf8(&text).ok()?).ok()
     }
 
-    /// The bytes of a text as they stand between its quotes.
+    /// The bytes of a text as written between its quotes.
     fn text(&mut self) -> Option<&'a [u8]> {
         self.byte(b'"')?;
         let rest = self.rest;
@@ -275,7 +274,7 @@ impl<'a> Scan<'a> {
         self.has_escapes && memchr(b'\\', text).is_some()
     }
 
-    /// A number, up to the first byte that is no digit.
+    /// A number, up to the first byte that isn't a digit.
     fn number(&mut self) -> Option<u64> {
         let mut rest = self.rest;
         let mut number = 0_u64;
@@ -292,18 +291,18 @@ impl<'a> Scan<'a> {
         None
     }
 
-    /// These bytes.
+    /// Takes these bytes.
     fn bytes(&mut self, bytes: &[u8]) -> Option<()> {
         self.rest = self.rest.strip_prefix(bytes)?;
         Some(())
     }
 
-    /// This byte.
+    /// Takes this byte.
     fn byte(&mut self, byte: u8) -> Option<()> {
         self.takes(byte).then_some(())
     }
 
-    /// Whether this byte came next, and was taken.
+    /// Whether this byte came next; takes it then.
     fn takes(&mut self, byte: u8) -> bool {
         match self.rest.split_first() {
             Some((first, others)) if *first == byte => {
@@ -314,7 +313,7 @@ impl<'a> Scan<'a> {
         }
     }
 
-    /// The byte that comes next, and stays.
+    /// The next byte, without taking it.
     fn peek(&self) -> Option<u8> {
         self.rest.first().copied()
     }
@@ -325,7 +324,7 @@ fn id_of(counter: u64, replica: u64) -> Option<OpId> {
     Some(OpId { counter, replica })
 }
 
-/// Puts the pairs of the replicas below this one behind those of the vector. What is behind them and that replica is left.
+/// Appends the pairs of the replicas below this one to the vector. Returns those of the replicas above it.
 fn put_before<'a>(
     vector: &mut NamedVector,
     pairs: &'a [OpId],
@@ -342,7 +341,7 @@ fn put_before<'a>(
     Some(behind(rest, replica))
 }
 
-/// Puts pairs behind those of the vector.
+/// Appends pairs to the vector.
 fn put_all(vector: &mut NamedVector, pairs: &[OpId]) -> Option<()> {
     for pair in pairs {
         put(vector, *pair)?;
@@ -350,7 +349,7 @@ fn put_all(vector: &mut NamedVector, pairs: &[OpId]) -> Option<()> {
     Some(())
 }
 
-/// Puts a pair behind those of the vector, unless its counter is 0. `None` if the vector has no room, or its replica isn't above theirs.
+/// Appends a pair to the vector, unless its counter is 0. `None` if the vector has no room, or if its replica isn't above theirs.
 fn put(vector: &mut NamedVector, pair: OpId) -> Option<()> {
     if pair.counter == 0 {
         return Some(());
@@ -362,7 +361,7 @@ fn put(vector: &mut NamedVector, pair: OpId) -> Option<()> {
     vector.push(pair).ok()
 }
 
-/// Whether a replica is above all that these pairs name.
+/// Whether the replica is above all that these pairs name.
 fn is_above(pairs: &[OpId], replica: ReplicaId) -> bool
     requires { IsCanonical pairs.now }
     ensures { OnTrue result (AreBelow replica pairs.now) }

@@ -1,4 +1,4 @@
-//! Version vectors, read of JSON: a list of pairs of a replica and its counter.
+//! Version vectors, read from JSON: a list of pairs of a replica and its counter.
 #![tactic(auto, using(crate::proofs::WrongLengths::wrong_lengths))]
 
 ghost use Rattle.std.specs.Prelude.{◌≡◌, ◌≤◌, IfOk, length};
@@ -13,10 +13,10 @@ use ids::{MOST_NAMED, NamedVector, OpId, Refusal};
 use serde_json::Value;
 use std::alloc::Global;
 
-/// A vector whose replicas rise.
+/// A vector, in ascending order of replica.
 ///
 /// # Errors
-/// `BadLine` if it is no list, has more than 256 pairs, or has one whose form is wrong or which doesn't rise. `NoMemory` if allocation
+/// `BadLine` if it is no list, has more than 256 pairs, or has one of another form or out of ascending order. `NoMemory` if allocation
 /// fails.
 pub fn vector_in(alloc: Global, value: &Value) -> Result<NamedVector, Refusal>
     ensures { IsRead (λ v. v) result (vector_form (view value.now)) }

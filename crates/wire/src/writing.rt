@@ -1,4 +1,4 @@
-//! Operations, their ids, vectors and values, as they are written: token by token into a text, with no JSON value in between.
+//! Writing operations, their ids, vectors and values: token by token into a text, without a JSON value in between.
 
 ghost use Rattle.std.specs.Prelude.{◌≡◌, ◌++◌, ◌∷◌, [], ℕ, List, map, IfOk, Ok, OnOk};
 ghost use Rattle.ids.specs.Vectors.{IsCanonical};
@@ -25,8 +25,8 @@ use json::Writer;
 use operation::{Hop, MOST_KEY_BYTES, MOST_KEYS, Mutation, Op, Place, Scalar, Val};
 use std::alloc::AllocError;
 
-/// The text with the line of the operation after what it holds. Where the operation can be sent, its line is read as it. Memory is
-/// taken for the text alone.
+/// The text followed by the operation's line. If the operation can be sent, its line is read back as the same operation. Allocates for the
+/// text alone.
 ///
 /// # Errors
 /// `AllocError` if allocation fails.
@@ -40,7 +40,7 @@ pub(crate) fn with_line(text: Vec<u8>, op: &Op) -> Result<Vec<u8>, AllocError>
     Ok(out.into_inner())
 }
 
-/// The text with the line of the operation beside a base after what it holds, as `with_line`.
+/// The text followed by the operation's line relative to a base, as `with_line`.
 ///
 /// # Errors
 /// `AllocError` if allocation fails.
@@ -73,7 +73,7 @@ pub fn put_op(out: &mut Writer, op: &Op) -> Result<(), AllocError>
     out.end_array()
 }
 
-/// Writes an operation, whose vector stands as its differences from a base.
+/// Writes an operation, with its vector as the differences from a base.
 fn put_op_beside(out: &mut Writer, base: &[OpId], op: &Op) -> Result<(), AllocError>
     requires { IsCanonical base.now }
     ensures json { OnOk result (IsWritten (tokens_of (op2_json base.now (stamped_of op.now))) out.old out.new) }
@@ -89,7 +89,7 @@ fn put_op_beside(out: &mut Writer, base: &[OpId], op: &Op) -> Result<(), AllocEr
     out.end_array()
 }
 
-/// Writes counter and replica.
+/// Writes an id: counter and replica.
 ///
 /// # Errors
 /// `AllocError` if allocation fails.
@@ -102,7 +102,7 @@ pub fn put_id(out: &mut Writer, id: OpId) -> Result<(), AllocError>
     out.end_array()
 }
 
-/// Writes replica and counter.
+/// Writes a pair: replica and counter.
 fn put_pair(out: &mut Writer, id: OpId) -> Result<(), AllocError>
     ensures json { OnOk result (IsWritten (tokens_of (pair_json id)) out.old out.new) }
     ensures typed { OnOk result (IsReplicaNumber id.replica) }
@@ -159,7 +159,7 @@ fn put_place(out: &mut Writer, place: &Place) -> Result<(), AllocError>
     put_key(out, last)
 }
 
-/// Writes the part before each hop, and answers with the last hop.
+/// Writes the part before each hop, and returns the last hop.
 fn put_parts<'a>(out: &mut Writer, hops: &'a [Hop]) -> Result<Option<&'a Hop>, AllocError>
     ensures json { OnOk result ((ds : List Data)
         → out.new.tokens ++ tokens_of_all ds ≡ out.old.tokens ++ tokens_of_all (parts_from root_json (map hop_of hops.entry.now) ++ ds)) }

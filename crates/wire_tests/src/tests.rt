@@ -1,4 +1,4 @@
-//! Lines with values from the rules, and each call once where it succeeds.
+//! Lines with values from the rules, and each call once in a case that succeeds.
 
 mod beside_lines;
 mod bundles;
@@ -27,7 +27,8 @@ const LINES: [&str; 5] = [
     r#"["op",[5,1],[[1,4]],[["m",0],["l","shopping"]],[3,1],["i","milk"]]"#,
 ];
 
-/// The same in profile 2, each beside the one before. All are replica 1's, so each vector differs from the one before in its only pair.
+/// The same in profile 2, each relative to the one before. All are replica 1's, so each vector differs from the one before in its only
+/// pair.
 const BESIDE: [&str; 5] = [
     r#"["op2",[1,1],[],[],0,["a",{}]]"#,
     r#"["op2",[2,1],[[1,1]],[["m",0]],"shopping",["a",[]]]"#,
@@ -39,7 +40,7 @@ const BESIDE: [&str; 5] = [
 /// The key of the list.
 const LIST: &str = "shopping";
 
-/// Where an operation of the list stands: at the root, at the list, at its head, or at its item 3@1.
+/// The place of an operation of the list: the root, the list, its head, or its item 3@1.
 #[derive(Clone, Copy)]
 enum At {
     Root,
@@ -48,7 +49,7 @@ enum At {
     Item,
 }
 
-/// What it does there.
+/// What it does at its place.
 #[derive(Clone, Copy)]
 enum Does<'a> {
     Map,
@@ -58,7 +59,7 @@ enum Does<'a> {
     Delete,
 }
 
-/// How many operations of replica 1 come before an operation of it, where it stands, and what it does.
+/// How many operations of replica 1 come before an operation of it, its place, and what it does.
 type Row<'a> = (u64, At, Does<'a>);
 
 /// The operations of the five lines.
@@ -139,7 +140,7 @@ fn joined(alloc: Global, parts: &[&str]) -> Result<String, AllocError> {
     Ok(text)
 }
 
-/// What stands before a part of a line, and what after it.
+/// What comes before a part of a line, and what comes after it.
 type Around<'a> = (&'a str, &'a str);
 
 /// The line with this part.
@@ -147,10 +148,10 @@ fn with_part(alloc: Global, around: Around, part: &str) -> Result<String, AllocE
     joined(alloc, &[around.0, part, around.1])
 }
 
-/// How many pairs a vector has at most.
+/// The most pairs of a vector.
 const MOST_PAIRS: u32 = 256;
 
-/// As many pairs, of the replicas 1, 2 and so on.
+/// That many pairs, of the replicas 1, 2 and so on.
 fn pairs(alloc: Global, count: u32) -> Result<String, AllocError> {
     let mut pairs = String::new(alloc);
     for replica in 1..=count {

@@ -15,7 +15,7 @@ use std::alloc::Global;
 use std::marker::Brand;
 use std::sync::Wait;
 
-/// The lines of the longest bundle: a receipt ends where the queue is full.
+/// The lines of the longest bundle: a receipt ends when the queue is full.
 const MOST_LINES: u32 = 65_536;
 
 /// What an engine does in a day.
@@ -26,7 +26,7 @@ pub struct Day<'a> {
     pub members: (u32, u32),
     /// The bundles that it receives before it writes.
     pub before: &'a [&'a [u8]],
-    /// What it writes, how many commands at a time, and how many in all.
+    /// What it writes: how many commands at a time, and how many in all.
     pub work: Work,
     pub batch: u32,
     pub count: u32,
@@ -127,7 +127,7 @@ fn play_on<N: EngineName, R: Wait>(
     }
     let asked = if day.answers_all { &empty } else { &first };
     let lines = answer(alloc, stage.reader, asked.as_slice())?;
-    // Engines may write the same operations in other bytes: what a line says is shown by the engine that receives it.
+    // Engines may write the same operations in different bytes: what a line says is shown by the engine that receives it.
     hands.digest.number(count_lines(&lines));
     Ok(lines)
 }

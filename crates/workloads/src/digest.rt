@@ -3,8 +3,8 @@
 use engine::{OpId, Reading, Refusal, Reply, Scalar, Tag};
 use std::alloc::Global;
 
-/// A digest of all that was answered, and of how many answers. Each reply and reading goes in whole, behind a number for its kind, and each
-/// list and text behind its length, so that what differs anywhere is told apart.
+/// A digest of all answers, and how many there were. Each reply and reading is added whole, after a number for its kind, and each list and
+/// text after its length, so that a difference anywhere shows.
 #[derive(Drop)]
 pub struct Digest {
     state: u64,
@@ -76,7 +76,7 @@ impl Digest {
         }
     }
 
-    /// Counts a reading, and adds it. The jobs ask for operations and vectors by lines alone, so these are added by their printed form.
+    /// Counts a reading, and adds it. The jobs ask for operations and vectors by lines alone, so these are added in their printed form.
     pub fn reading(&mut self, alloc: Global, reading: &Reading) -> Result<(), Refusal> {
         self.answers = self.answers.wrapping_add(1);
         match reading {

@@ -1,15 +1,15 @@
-//! What is drawn from a seed.
+//! Random draws from a seed.
 
 use crate::digest::Digest;
 use engine::{Refusal, Ticket};
 use std::alloc::Global;
 
-/// Draws of a play, its digest, and the tickets that weren't polled yet.
+/// The draws of a play, its digest, and the tickets that weren't polled yet.
 #[derive(Drop)]
 pub struct Hands {
     state: u64,
     pub digest: Digest,
-    /// Submitted and not yet polled.
+    /// Submitted but not yet polled.
     pub tickets: Vec<Ticket>,
 }
 
@@ -22,7 +22,7 @@ impl Hands {
         }
     }
 
-    /// The next draw, below the limit (SplitMix64, by a remainder); 0 where the limit is 0.
+    /// The next draw, below the limit (SplitMix64, by a remainder); 0 if the limit is 0.
     pub fn below(&mut self, limit: u32) -> u32 {
         self.state = self.state.wrapping_add(11_400_714_819_323_198_485);
         let first = (self.state ^ (self.state >> 30)).wrapping_mul(13_787_848_793_156_543_929);
@@ -31,7 +31,7 @@ impl Hands {
         u32::try_from(drawn).unwrap_or(0)
     }
 
-    /// Keeps a ticket to be polled, and says how many are kept.
+    /// Keeps a ticket to be polled, and returns how many are kept.
     pub fn keep(&mut self, ticket: Ticket) -> Result<usize, Refusal> {
         self.tickets.push(ticket)?;
         Ok(self.tickets.len())

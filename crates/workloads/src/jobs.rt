@@ -33,6 +33,8 @@ pub fn play<R: Wait>(
     match job {
         "history" => history(rt, alloc, hands, count),
         "apart" => apart(rt, alloc, hands, count),
+        "heads" => meet(rt, alloc, hands, Work::Heads, count),
+        "ends" => meet(rt, alloc, hands, Work::Ends, count),
         "typing" => alone(rt, alloc, hands, Work::Typing, 1, count),
         "saves" => alone(rt, alloc, hands, Work::Saves, 256, count),
         "lost" => lose(rt, alloc, hands, count),
@@ -108,6 +110,31 @@ fn apart<R: Wait>(rt: &R, alloc: Global, hands: &mut Hands, count: u32) -> Resul
         };
         others = play_day(rt, alloc, hands, &day)?;
     }
+    Ok(())
+}
+
+/// Two engines write into a list apart, and one takes what the other wrote.
+fn meet<R: Wait>(
+    rt: &R,
+    alloc: Global,
+    hands: &mut Hands,
+    work: Work,
+    count: u32,
+) -> Result<(), Refusal> {
+    let first = Day {
+        shows: false,
+        answers_all: false,
+        ..day_of(work, 256, count)
+    };
+    let lines = play_day(rt, alloc, hands, &first)?;
+    let second = Day {
+        own: 2,
+        after: lines.as_slice(),
+        shows: false,
+        answers_all: false,
+        ..day_of(work, 256, count)
+    };
+    let _all = play_day(rt, alloc, hands, &second)?;
     Ok(())
 }
 

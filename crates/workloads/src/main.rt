@@ -1,7 +1,6 @@
-//! Plays what users wait for, on engines, and prints a digest of all that they answered: the words are a job, how much of it, and
-//! a seed.
+//! Plays what users wait for, on engines, and prints a digest of all their answers: the words are a job, how much of it, and a seed.
 //!
-//! The file `stdout` has what a proved build printed of commit 48e0743 with this crate laid over it.
+//! The file `stdout` has what a proved build of commit 48e0743, with this crate added, printed.
 #![tactic(auto)]
 
 mod days;

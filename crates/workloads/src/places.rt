@@ -36,7 +36,7 @@ const LEVELS: [&str; 8] = [
     "shortcuts",
 ];
 
-/// A value: mostly a text, else a number of either sign, a truth or nothing.
+/// A value: mostly a text, else a number of either sign, a boolean or null.
 pub fn drawn_value(alloc: Global, hands: &mut Hands) -> Result<Val, Refusal> {
     match hands.below(16) {
         0 => Ok(Val::Scalar(Scalar::Null)),

@@ -1,4 +1,4 @@
-//! What an application shows: what stands at a place, on a screen, or in the whole document.
+//! What an application shows: a place, a screen, or the whole document.
 
 use crate::draws::Hands;
 use crate::places::{field, item};
@@ -7,7 +7,7 @@ use engine::{EngineName, Expr, Key, Question, Reading, Refusal};
 use std::alloc::Global;
 use std::sync::Wait;
 
-/// How many items stand on a screen.
+/// How many items are on a screen.
 const SCREEN: u32 = 50;
 
 /// Adds a reading to the digest, and returns it.
@@ -96,7 +96,7 @@ pub fn show_fields<N: EngineName>(
     Ok(())
 }
 
-/// The whole document, place after place: at each its values, the items of its list, and the keys of its map.
+/// Shows the whole document, place by place: at each its values, the items of its list, and the keys of its map.
 pub fn show_all<N: EngineName, R: Wait>(
     rt: &R,
     alloc: Global,
@@ -114,7 +114,7 @@ pub fn show_all<N: EngineName, R: Wait>(
     Ok(())
 }
 
-/// What stands at a place; the places beneath it are put behind the others.
+/// Shows what is at a place, and appends the places beneath it to the others.
 fn show_at<N: EngineName>(
     alloc: Global,
     stage: &mut Stage<N>,

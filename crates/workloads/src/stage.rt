@@ -1,4 +1,4 @@
-//! An engine's ends, and what is done with them.
+//! An engine's ends, and what can be done with them.
 
 use crate::draws::Hands;
 use engine::{Client, Command, EngineName, ReaderToken, Refusal, Step, Writer};
@@ -17,7 +17,7 @@ pub struct Stage<'a, N: EngineName> {
 }
 
 impl<N: EngineName> Stage<'_, N> {
-    /// Submits a command, and settles where a batch is full.
+    /// Submits a command, and settles if a batch is full.
     pub fn submit<R: Wait>(
         &mut self,
         rt: &R,
@@ -85,7 +85,7 @@ impl<N: EngineName> Stage<'_, N> {
         self.settle(rt, alloc, hands)
     }
 
-    /// Keeps the tickets of what was received, whose serials and number go into the digest.
+    /// Keeps the tickets of what was received, and adds their serials and number to the digest.
     fn keep_received(&mut self, hands: &mut Hands, received: &Received) -> Result<(), Refusal> {
         if let Some((_, refusal)) = received.stopped {
             return Err(refusal);

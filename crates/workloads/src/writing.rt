@@ -23,6 +23,10 @@ pub enum Work {
     Saves,
     /// Fields of a configuration alone.
     Fields,
+    /// Items of a list, each first.
+    Heads,
+    /// Items of a list, each last.
+    Ends,
 }
 
 /// Writes some commands.
@@ -43,6 +47,8 @@ pub fn write<N: EngineName, R: Wait>(
         Work::Typing => type_and_look(rt, alloc, stage, hands, count)?,
         Work::Saves => write_saves(rt, alloc, stage, hands, count)?,
         Work::Fields => write_fields(rt, alloc, stage, hands, count)?,
+        Work::Heads => write_items(rt, alloc, stage, hands, count, false)?,
+        Work::Ends => write_items(rt, alloc, stage, hands, count, true)?,
     }
     stage.settle(rt, alloc, hands)
 }
@@ -78,6 +84,26 @@ fn write_note<N: EngineName, R: Wait>(
         }
     }
     stage.settle(rt, alloc, hands)
+}
+
+/// Items of a list, each first or each last.
+fn write_items<N: EngineName, R: Wait>(
+    rt: &R,
+    alloc: Global,
+    stage: &mut Stage<N>,
+    hands: &mut Hands,
+    count: u32,
+    at_end: bool,
+) -> Result<(), Refusal> {
+    let length = count_items(alloc, stage, hands, field(alloc, "note")?)?;
+    let mut cursor = if at_end { length } else { 0 };
+    for _ in 0..count {
+        insert(rt, alloc, stage, hands, "note", cursor)?;
+        if at_end {
+            cursor = cursor.saturating_add(1);
+        }
+    }
+    Ok(())
 }
 
 /// Inserts a drawn value after an item, counted from 1, or first, after 0.

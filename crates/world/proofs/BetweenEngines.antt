@@ -42,7 +42,7 @@ use Rattle.world.proofs.DrawnWaiting.{takes_draw}
 drain_begins : (r d : Replica) → Drains r d → BeginsWith d.entries r.entries
 drain_begins r d h = let b = begins_with_peers h.appended r.entries in (b.0, h.entries ∙ b.1)
 
--- what is left of a drain after this many turns
+-- what a drain leaves after this many turns
 left_drains : (n : ℕ) (d : Replica) → IsRunning d → Drains (drain_for n d) (drain d)
 left_drains n d h = by (cases_lt (length d.waiting) n)
   where
@@ -58,7 +58,7 @@ left_drains n d h = by (cases_lt (length d.waiting) n)
 
 -- ---- a submission that is handled in part
 
--- the replica q is between r, and r after the submission x
+-- the replica q is between r and what r is after the submission x
 record IsWithin (r : Replica) (x : Submitted) (q : Replica) : Type 0 where
   pub own : q.own ≡ r.own
   pub own_after : (after_submission r x).own ≡ q.own
@@ -132,7 +132,7 @@ module _ (E : Engine) (x : Submitted) (queue : List Submitted) (s : IsSound E) (
   within q (inr (inl e)) = subst (IsWithin E.replica x) (sym e) after_it
   within q (inr (inr d)) = subst (IsWithin E.replica x) (sym d.4) (within_delivery E.replica x d.0 d.1 s.running d.2 d.3)
 
-  -- the engine whose replica is q is between E, and E after the take
+  -- the engine whose replica is q is between E and what E is after the take
   module _ (free : (is_any E.due || nat_le E.batch (length E.handled)) ≡ false) (q : Replica) (w : IsWithin E.replica x q) where
     abbrev answered : Handled
     answered = record { submitted = x; reply = reply_to E.replica x }
@@ -228,7 +228,7 @@ given_grown (suc n) E s =
     let one = answer_given E s in
     grown_trans E (give E).engine (give_for n (give E).engine) one.grown (given_grown n (give E).engine one.sound)
 
--- the publication and the answers after all takes
+-- the publish and the answers after all takes
 ended_grown : (T : Engine) → IsSound T → (n : ℕ) → HasGrown T (give_for n (publish T).engine)
 ended_grown T s n =
     let shown = published T s in

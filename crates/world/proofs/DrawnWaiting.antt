@@ -103,7 +103,7 @@ gives_draw zero E = draws_still E E (refl, refl)
 gives_draw (suc n) E = draws_both E (give E).engine (give_for n (give E).engine) (draws_still E (give E).engine (still_given E))
     (gives_draw n (give E).engine)
 
--- the publication and the answers of a whole step
+-- the publish and the answers of a whole step
 pub rest_draws : (E : Engine) (n : ℕ) → Draws E (give_for n (publish E).engine)
 rest_draws E n = draws_both E (publish E).engine (give_for n (publish E).engine) (draws_still E (publish E).engine (still_published E))
     (gives_draw n (publish E).engine)
@@ -139,7 +139,7 @@ answer_still E t k (Some (Hello v)) = (still_seen E t E.published).0
 
 -- ---- each step
 
--- where the replica stays, what waits does
+-- if the replica stays, so does what waits
 pub waits_still : (E G : Engine) → G.replica ≡ E.replica → (s : Stamped) → IsAmong s G.replica.waiting
     → IsAmong s E.replica.waiting ⊎ IsQueued s E
 waits_still E G same s m = inl (subst (λ (r : Replica). IsAmong s r.waiting) same m)
@@ -162,7 +162,7 @@ step_waits ms (Deliver c k) E h = waits_still E (engine_step ms (Deliver c k) E)
 step_waits ms (Lines c ss bad) E h = waits_still E (engine_step ms (Lines c ss bad) E).engine (receive_still E c ss bad)
 step_waits ms CountDropped E h = waits_still E E refl
 
--- what a client submits leaves what waits
+-- what a client submits leaves what waits unchanged
 pub submits_wait : (c : ℕ) (bad : Option Refusal) (n : ℕ) (E : Engine) (ss : List Stamped) (s : Stamped)
     → IsAmong s (submit_all c bad n E ss).engine.replica.waiting → IsAmong s E.replica.waiting ⊎ IsQueued s E
 submits_wait c bad n E ss = waits_still E (submit_all c bad n E ss).engine (all_still c bad n E ss)

@@ -1,4 +1,4 @@
--- What a token learns where the answer to a serial is set, and where it is not.
+-- What a token learns if the answer to a serial is set, and if it isn't.
 use Rattle.std.proofs.Common.{◌≡◌, ℕ, max, Option, Some, None, refl, sym}
 use Rattle.std.proofs.lemmas.Option.{none-some}
 use Rattle.std.specs.Prelude.{option_and_then}

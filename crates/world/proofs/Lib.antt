@@ -14,5 +14,5 @@ pub mod BetweenEngines
 pub mod StoppedWorlds
 pub mod StoppedReceipts
 pub mod TruePolls
--- Handed on from the crates below, for users of this one.
+-- Re-exported from the crates below, for users of this one.
 pub use Rattle.wire.proofs as wire

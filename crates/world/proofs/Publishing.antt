@@ -19,7 +19,7 @@ use Rattle.replica.proofs.oplog.Oldest.{history-more}
 use Rattle.replica.specs.document.Documents.{Contents, MayFollowEntries}
 use Rattle.world.specs.Publishers.{CanPublish, PublishesMore, appended_of}
 
--- what is pending first is the next to be published
+-- the first pending entry is the next to be published
 pub oldest_next : (e : Entry) (left : List Entry) (G : List TheEntry)
     → history (e ∷ left) ++ G ≡ history left ++ entry_of e ∷ G
 oldest_next e left G =
@@ -111,7 +111,7 @@ added own d pending e h z is lawful fits all more =
     (subst (λ (p : Publication). lacks_room (table_after p.members p.appended) (stamped_in (entry_of e)).id.replica ≡ false) (sym is)
     fits)).1
 
--- what is published of a history are its first entries
+-- what is published of a history is its first entries
 pub published_first : (p : Publication) (G : List TheEntry) → BeginsWith p.appended p.published → p.appended ≡ G
     → p.published ≡ first_entries (length p.published) G
 published_first p G begins is =

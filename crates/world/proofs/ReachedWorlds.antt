@@ -1,4 +1,4 @@
--- Worlds that steps lead to from a new one, and their engines.
+-- Worlds to which steps lead from a new one, and their engines.
 use Rattle.std.proofs.Common.{◌≡◌, ℕ, List, ◌++◌, [], ◌∷◌, Some, sym, ap, ◌∙◌, slice_get}
 use Rattle.semantics.specs.Engine.{Engine}
 use Rattle.semantics.specs.WriteSteps.{take_submission}

@@ -1,4 +1,4 @@
--- What single steps of an engine leave where there is something to do.
+-- What single steps of an engine leave if there is something to do.
 use Rattle.std.proofs.Common.{◌≡◌, ℕ, zero, suc, max, ◌-◌, ◌<◌, true, false, nat_le, List, [], ◌∷◌, ◌++◌, map, length, get_or, Some, None}
 use Rattle.std.proofs.Common.{option_map, refl, ap, ◌∙◌, slice_get, slice_set}
 use Rattle.std.proofs.lemmas.Option.{slice_get-map, slice_get_read}
@@ -8,12 +8,12 @@ use Rattle.semantics.specs.Engine.{Engine, Client, Cell, Given, Ticket, Denied, 
 use Rattle.semantics.specs.WriteSteps.{with_answer, give_to, with_cell, next_submission, push}
 use Rattle.semantics.specs.ReadSteps.{poll, cell_at, see}
 
--- what stands at an index of a list, as its image
+-- what is at an index of a list, as its image
 pub read_mapped : {A B : Type 0} (f : A → B) (xs : List A) (i : ℕ) (x : A) → i < length xs → x ≡ get_or xs i x
     → slice_get (map f xs) i ≡ Some (f x)
 read_mapped f xs i x h e = slice_get-map f xs i ∙ ap (option_map f) (slice_get_read xs (length xs) i x refl h e)
 
--- a list in which what stands at an index is put there again
+-- a list in which the element at an index is put back there
 pub set_itself : {X : Type 0} (xs : List X) (i : ℕ) (x : X) → slice_get xs i ≡ Some x → slice_set xs i x ≡ xs
 set_itself [] i x e = refl
 set_itself (y ∷ ys) zero x e = (let same : x ≡ y = cc in ap (λ z. z ∷ ys) same)

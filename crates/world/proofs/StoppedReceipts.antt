@@ -23,7 +23,7 @@ lines_stopped E F c ss ts bad got sound read (inl same) = subst (λ A. IsBetween
 lines_stopped E F c ss ts bad got sound (inl memory) (inr part) = absurd (part.0 memory)
 lines_stopped E F c ss ts bad got sound (inr read) (inr part) = between_same (λ i. (receive_lines E c (read.0 i) (read.1 i)).engine) part.1
 
--- the same of a message, all of whose operations were read
+-- the same for a message, all of whose operations were read
 pub message_stopped : (E F : Engine) (c : ℕ) (m : Option Message) (ss ts : List Stamped) → IsSound E → m ≡ Some (Bundle ss) → ts ≡ ss
     → (F ≡ E) ⊎ ((◌≢◌ {A = Option Refusal} None (Some NoMemory)) × IsBetween E F (receive_lines E c ts None).engine)
     → IsBetween E F (receive_message E c m).engine

@@ -1,4 +1,4 @@
--- Where a world stops, each engine is between what it was and what the next step makes of it.
+-- If a world stops, each engine is between what it was and what the next step makes of it.
 use Rattle.std.proofs.Common.{◌≡◌, ◌⊎◌, inl, inr, ℕ, zero, suc, ◌+◌, ◌≤◌, List, [], ◌∷◌, length, take, Option, Some, None, refl, sym}
 use Rattle.std.proofs.Common.{ap, ◌∙◌, subst, add-one, arith, slice_get}
 use Rattle.std.proofs.lemmas.Bool.{cases_eq}
@@ -60,7 +60,7 @@ all_taken [] (suc n) e = refl
 all_taken (s ∷ steps) zero e = absurd (let h = e in cc)
 all_taken (s ∷ steps) (suc n) e = ap (λ (ss : List WorldStep). s ∷ ss) (all_taken steps n e)
 
--- after n steps each engine is between that and what is after one more
+-- after n steps, each engine is between what it is then and what it is after one more
 module _ (W : World) (steps : List WorldStep) (n : ℕ) (reached : IsReachedWorld W) where
   abbrev U : World
   U = world_after W (take n steps)

@@ -9,13 +9,13 @@ use Rattle.semantics.specs.Engine.{Engine, Client, Ticket, Denied}
 use Rattle.semantics.specs.WriteSteps.{next_submission, with_cell, submit, push}
 use Rattle.semantics.specs.PeerSteps.{as_received, receive_lines, submit_all}
 
--- what stands at an index within the list
+-- what is at an index within the list
 pub found : {X : Type 0} (xs : List X) (i : ℕ) → i < length xs → (x : X) × (slice_get xs i ≡ Some x)
 found [] i l = absurd (omega arith)
 found (x ∷ xs) zero l = (x, refl)
 found (x ∷ xs) (suc i) l = found xs i (omega arith)
 
--- the replica, and how many clients there are, stay
+-- the replica and the number of clients stay
 pub record Keeps (E F : Engine) : Type 0 where
   pub replica : F.replica ≡ E.replica
   pub clients : length F.clients ≡ length E.clients
@@ -64,7 +64,7 @@ pub submit_stop : (c : ℕ) (bad : Option Refusal) (n : ℕ) (E : Engine) (s : S
     → submit_all c bad n E (s ∷ ss) ≡ record { engine = E; submitted = n; stopped = Some (suc n, why) }
 submit_stop c bad n E s ss why h = rw h refl
 
--- what a client that is there receives
+-- what a client that exists receives
 pub receive-there : (E : Engine) (c : ℕ) (ss : List Stamped) (bad : Option Refusal) (k : Client) → slice_get E.clients c ≡ Some k
     → receive_lines E c ss bad ≡ as_received (suc (length k.cells)) (submit_all c bad 0 E ss)
 receive-there E c ss bad k e = rw e refl

@@ -1,4 +1,4 @@
--- What a request leaves in an engine of which the code holds the clients and the queue.
+-- What a request leaves in an engine whose clients and queue the code holds.
 use Rattle.std.proofs.Common.{◌≡◌, ℕ, ◌<◌, ◌≤◌, true, false, nat_le, List, get_or, Some, length, map, sym, ap, ◌∙◌, slice_get, arith}
 use Rattle.std.proofs.Common.{suc, [], ◌∷◌, ◌++◌, slice_set, Option}
 use Rattle.std.proofs.lemmas.List.{length-map}
@@ -18,7 +18,7 @@ use Rattle.world.specs.contracts.engine.Engine.{the_view}
 use Rattle.world.proofs.SingleSteps.{read_mapped, push-there, push-last, push-full}
 use Rattle.world.proofs.SubmittedRequests.{found, receive-there}
 
--- a client that is there
+-- a client that exists
 pub client_there : (e : Inside) (A : Engine) (at : ℕ) → the_view e ≡ A → at < length e.clients.items
     → (k : Client) × (slice_get A.clients at ≡ Some k)
 client_there e A at is lt =
@@ -40,11 +40,11 @@ stands e A at k is there read =
     let long = ap (λ (F : Engine). length F.clients) is in
     read_mapped client e.clients.items at k (omega (arith, there, long, length-map e.clients.items client)) read
 
--- what a list of the code holds fewer of than a bound, its meaning does too
+-- if a list of the code is shorter than a bound, so is its meaning
 below : {A B : Type 0} (f : A → B) (xs : List A) (n : ℕ) → length xs < n → nat_le n (length (map f xs)) ≡ false
 below f xs n l = lt-leb n (length (map f xs)) (omega (arith, l, length-map xs f))
 
--- and where it holds as many, so does its meaning
+-- and if it is as long as the bound, so is its meaning
 full : {A B : Type 0} (f : A → B) (xs : List A) (n : ℕ) → n ≤ length xs → nat_le n (length (map f xs)) ≡ true
 full f xs n l = le-leb n (length (map f xs)) (omega (arith, l, length-map xs f))
 

@@ -1,4 +1,4 @@
--- One step of a world, where its engine is there.
+-- One step of a world whose engine exists.
 use Rattle.std.proofs.Common.{◌≡◌, ℕ, zero, suc, ◌≤◌, List, [], ◌∷◌, ◌++◌, length, take, Some, None, refl, ap}
 use Rattle.std.proofs.Common.{slice_get, slice_set}
 use Rattle.std.proofs.lemmas.Option.{slice_get_past}

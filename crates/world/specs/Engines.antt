@@ -38,12 +38,12 @@ abbrev pub message_of : Message → engine.Message
 message_of (message.Hello v) = engine.Hello v
 message_of (message.Bundle ops) = engine.Bundle (map stamped_of ops.items)
 
--- the reply to a request that was refused so, or else taken under the serial
+-- the reply to a request that was refused for this reason, or else taken under the serial
 abbrev pub taken_or_denied : ℕ → Option Refusal → engine.StepReply
 taken_or_denied serial None = engine.Ticket serial
 taken_or_denied serial (Some why) = engine.Denied why
 
--- the next line, where that is refused
+-- the next line, if that is refused
 abbrev pub stop_after : ℕ → Option Refusal → Option (ℕ × Refusal)
 stop_after n refused = option_map (λ why. (n + 1, why)) refused
 
@@ -52,7 +52,7 @@ abbrev pub first_of : Option Refusal → Option Refusal → Option Refusal
 first_of None other = other
 first_of (Some why) other = Some why
 
--- steps lead from a new world to one that has the engine
+-- steps lead from a new world to one that has this engine
 abbrev pub IsReachedEngine : Engine → Type 0
 IsReachedEngine E = (cs : List Configuration) × (steps : List WorldStep) × (e : ℕ) × IsEngineAfter cs steps e E
 

@@ -5,7 +5,7 @@ pub mod Engines
 pub mod Parts
 pub mod Worlds
 pub mod Polls
--- Handed on from the crates below, for users of this one.
+-- Re-exported from the crates below, for users of this one.
 pub use Rattle.replica.specs.value
 pub use Rattle.replica.specs.cursor
 pub use Rattle.replica.specs.operation

@@ -17,8 +17,8 @@ abbrev pub HasReason : Engine → (floor : ℕ) → Stamped → Refusal → (m :
 HasReason E floor s why m = (why ≡ NoMemory)
     ⊎ ((k : ℕ) × (floor ≤ k) × (k ≤ m) × IsTrueOf E.replica.own E.replica.members (first_entries k (published_entries E)) s why)
 
--- the reply to client c's poll of a serial is legal in E's published history, for what was submitted and not below its floor; and where it
--- refuses a peer's operation, with reason
+-- the reply to client c's poll of a serial is legal in E's published history, for what was submitted and not below its floor; and if it
+-- refuses a peer's operation, there is a reason
 pub record IsTrueReply (E : Engine) (c serial : ℕ) (r : Reply) : Type 0 where
   pub submitted : Submitted
   pub was : WasSubmitted E c serial submitted
@@ -27,13 +27,13 @@ pub record IsTrueReply (E : Engine) (c serial : ℕ) (r : Reply) : Type 0 where
   pub reason : (s : Stamped) (why : Refusal) (m : ℕ) → submitted.request ≡ OfPeer s → r ≡ RefusedAt why m
       → HasReason E submitted.floor s why m
 
--- what engine e of W replies to this act is true, where it is a poll
+-- the reply of engine e of W to this act is true, if the act is a poll
 abbrev pub PollsTruly : World → (e : ℕ) → WorldAct → Type 0
 PollsTruly W e (Poll c serial) = (E : Engine) (r : Reply) → slice_get W.engines e ≡ Some E → (poll E c serial).reply ≡ Replied r
     → IsTrueReply E c serial r
 PollsTruly W e act = ⊤
 
--- each poll of these steps, one after another from W on, is replied truly
+-- each poll of these steps, done one after another from W on, gets a true reply
 abbrev pub AllPollTruly : World → List WorldStep → Type 0
 AllPollTruly W [] = ⊤
 AllPollTruly W (s ∷ steps) = PollsTruly W s.engine s.act × AllPollTruly (world_step W s).world steps

@@ -1,4 +1,4 @@
--- What a publisher has published, and what it will.
+-- What a publisher has published, and what it will publish.
 use Rattle.std.specs.Prelude.{◌≡◌, ◌++◌, List}
 use Rattle.semantics.specs.Stamped.{IsLegalStamped}
 use Rattle.semantics.specs.Entries.{Entry as TheEntry, stamped_entries}
@@ -8,7 +8,7 @@ use Rattle.replica.specs.operation.declared.command.Entry.{Entry}
 use Rattle.replica.specs.oplog.Logs.{history}
 use Rattle.replica.specs.document.Documents.{Contents}
 
--- all that was appended: what is published, and then the pending entries, which begin with the oldest
+-- all that was appended: what is published, and then the pending entries, the oldest first
 abbrev pub appended_of : Contents → List Entry → List TheEntry
 appended_of published pending = history pending ++ published.entries
 

@@ -34,7 +34,7 @@ abbrev pub IsAnother : ℕ → Option TheStep → Type 0
 IsAnother e None = ⊤
 IsAnother e (Some s) = e ≢ s.engine
 
--- Fs are the engines Es, of which the one that moves did a part of the step, after these messages
+-- Fs are the engines Es after the one that moves did a part of the step, with these messages sent before
 pub record MovesInPart (ms : List Message) (s : TheStep) (Es Fs : List Engine) : Type 0 where
   pub engine : Engine
   pub part : Engine
@@ -42,15 +42,15 @@ pub record MovesInPart (ms : List Message) (s : TheStep) (Es Fs : List Engine) :
   pub moved : Fs ≡ slice_set Es s.engine part
   pub begun : IsInPart ms s.act engine part
 
--- F is between what engine e is after n steps and after one more
+-- F is between what engine e is after n steps and what it is after one more
 abbrev pub IsBetweenSteps : World → List TheStep → ℕ → ℕ → Engine → Type 0
 IsBetweenSteps W steps n e F = (E G : Engine)
     → slice_get (world_after W (take n steps)).engines e ≡ Some E
     → slice_get (world_after W (take (n + 1) steps)).engines e ≡ Some G
     → IsBetween E F G
 
--- V is the world W that has done n of the steps whole, and the next one in part: the messages and all engines but the one
--- that moves next are as after the n steps, and each engine is between what it is then and after the next step
+-- V is the world W after n whole steps and a part of the next one: the messages and all engines but the one that moves next are as after
+-- the n steps, and each engine is between what it is then and after the next step
 pub record StopsInStep (W : World) (steps : List TheStep) (n : ℕ) (V : World) : Type 0 where
   pub within : n ≤ length steps
   pub messages : V.messages ≡ (world_after W (take n steps)).messages

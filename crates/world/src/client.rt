@@ -42,8 +42,7 @@ impl Client {
         self.cells.get((serial - 1) as usize)
     }
 
-    /// What the client, number `client` of its engine, submits next: the request, under its next serial, with what its token has
-    /// seen as the floor.
+    /// The next submission of client `client` of its engine: the request, under its next serial, with what its token has seen as the floor.
     pub fn next_submission(&self, client: usize, request: Request) -> Submission
         requires { vec_len self.now.cells + 1 < 2 ^ 64 }
         ensures submission { submitted_of result ≡ next_submission client (client_of self.now) (request_of request) }

@@ -40,9 +40,9 @@ pub struct Engine {
     handler: Handler,
     publisher: Publisher,
     queue: VecDeque<Submission>,
-    /// Handled and not published.
+    /// Handled but not published.
     handled: VecDeque<Handled>,
-    /// Published and not answered.
+    /// Published but not answered.
     due: VecDeque<Handled>,
     clients: Vec<Client>,
     readers: Vec<usize>,
@@ -107,7 +107,7 @@ impl Engine {
     /// Does what a step says. `messages` are all that were sent before; what the act sends is appended to them.
     ///
     /// # Errors
-    /// `AllocError` if allocation fails. The act may be done in part then.
+    /// `AllocError` if allocation fails. The act may then be done in part.
     pub fn turn(
         &mut self,
         alloc: Global,
@@ -151,7 +151,7 @@ impl Engine {
     }
 }
 
-/// A handler of a new replica, and a publisher of its history. The configuration is within the limits, so that only an allocation can fail.
+/// A handler of a new replica, and a publisher of its history. The configuration is within the limits, so only an allocation can fail.
 fn new_histories(alloc: Global, config: &Config) -> Result<(Handler, Publisher), AllocError>
     requires { is_within_limits config.now ≡ true }
     ensures new { IfOk result

@@ -12,7 +12,7 @@ pub use replica::Reply;
 pub use step::{WorldAct, WorldReply, WorldStep};
 pub use world::World;
 
-// Handed on from the crates below, for users of this one.
+// Re-exported from the crates below, for users of this one.
 pub use replica::{
     Command, Expr, ExprStep, Key, NamedVector, Op, Question, Reading, Scalar, Shared, Tag, Val,
 };

@@ -9,7 +9,7 @@ use std::alloc::{AllocError, Global};
 use std::collections::VecDeque;
 use std::marker::Model;
 
-/// The published document, and the entries that are appended and not published yet. Contracts see the publication.
+/// The published document, and the entries that are appended but not yet published. Contracts see the publication.
 #[derive(Debug, Drop)]
 pub struct Publisher {
     /// The replica's own number, which only contracts use.
@@ -64,7 +64,7 @@ impl Publisher {
     /// Publishes all that is appended. Clones nothing.
     ///
     /// # Errors
-    /// `AllocError` if allocation fails. Some entries may be published then, the oldest first; the others stay pending.
+    /// `AllocError` if allocation fails. Some entries may then be published, the oldest first; the others stay pending.
     pub fn publish(&mut self, alloc: Global) -> Result<(), AllocError>
         ensures published { OnOk result (self.new ≡ record self.old { published = self.old.appended }) }
         ensures partly { self.new ≡ record self.old { published = self.new.published } }

@@ -10,7 +10,7 @@ pub struct WorldStep {
     pub act: WorldAct,
 }
 
-/// What an engine does in a step. An engine's clients and the messages of a world are numbered from 0; an engine's tokens are its
+/// What an engine does in a step. An engine's clients and the messages of a world are numbered from 0; an engine's tokens are first its
 /// clients', then its readers'.
 #[derive(Debug, Drop)]
 pub enum WorldAct {
@@ -57,7 +57,7 @@ pub enum WorldAct {
         client: usize,
         message: usize,
     },
-    /// A client receives bytes of any origin, as lines of operations in either profile.
+    /// A client receives bytes that may come from anywhere, as lines of operations in either profile.
     Line {
         client: usize,
         text: Vec<u8>,
@@ -88,12 +88,12 @@ pub enum WorldReply {
     Unanswered,
     /// The answer to what was submitted.
     Replied(Reply),
-    /// How many entries the token has seen, and what they answer.
+    /// How many entries the token has seen, and the answer from them.
     Read {
         seen: u64,
         reading: Reading,
     },
-    /// How many entries the token has seen, and why they give no answer: the expression is refused.
+    /// How many entries the token has seen, and why there is no answer from them: the expression is refused.
     NotRead {
         seen: u64,
         why: Refusal,
@@ -112,7 +112,7 @@ pub enum WorldReply {
     },
     /// There is no such message.
     NoMessage,
-    /// The first serial, 0 if there is none, and how many operations were submitted; the line where that stopped, counted from 1, and why.
+    /// The first serial, 0 if there is none, and how many operations were submitted; if that stopped, the line, counted from 1, and why.
     Received {
         first: u64,
         submitted: u64,

@@ -1,4 +1,4 @@
-//! Engines on one thread and the messages between them, as a list of steps moves them.
+//! Engines on one thread and the messages between them, moved by a list of steps.
 
 ghost use Rattle.std.specs.Prelude.{◌≡◌, ◌+◌, ℕ, ◌↔◌, ◌⊎◌, OnOk, OnErr, IfOk, IfErr, Err, IsFalse, true, false, min, map, length};
 ghost use Rattle.std.specs.Prelude.{alloc_error};
@@ -18,8 +18,8 @@ use ids::{Config, Refusal};
 use std::alloc::{AllocError, Global};
 use std::marker::Model;
 
-/// Engines on one thread, and the messages between them. If an allocation fails, the world is poisoned: every later call of `run`
-/// answers `AllocError`.
+/// Engines on one thread, and the messages between them. If an allocation fails, the world is poisoned: every later call of `run` returns
+/// `AllocError`.
 ///
 /// Contracts see the engines of the definitions, how many steps were done, and whether the world is poisoned.
 #[derive(Debug, Drop)]
@@ -73,11 +73,11 @@ impl World {
         })
     }
 
-    /// Runs the steps in order, and returns the reply to each. A step of an engine that isn't there replies `Idle`.
+    /// Runs the steps in order, and returns the reply to each. A step of an engine that doesn't exist replies `Idle`.
     ///
     /// # Errors
-    /// `AllocError` if allocation fails, and at each call after that. `steps_done` steps were done whole; the next one may be done
-    /// in part, by its engine alone, which is then between what it was and what the whole step makes of it.
+    /// `AllocError` if allocation fails, and for each call after that. `steps_done` steps were done whole; the next one may be done in
+    /// part, by its engine alone, which is then between what it was and what the whole step makes of it.
     pub fn run(&mut self, alloc: Global, steps: &[WorldStep]) -> Result<Vec<WorldReply>, AllocError>
         ensures replies { IfOk result
             (λ rs. map step_reply_of rs.items ≡ replies_of (world_of self.old) (map step_of steps.now)) }
@@ -110,7 +110,7 @@ impl World {
         Ok(replies)
     }
 
-    /// How many steps were done whole, by all runs. Stays at 18446744073709551615.
+    /// How many steps were done whole, by all runs. Saturates at 18446744073709551615.
     pub fn steps_done(&self) -> u64
         ensures { result ≡ self.now.done }
     {

@@ -1,4 +1,4 @@
-//! What worlds reply, by examples.
+//! The replies of worlds, by examples.
 
 mod documents;
 mod lives;
@@ -54,7 +54,7 @@ enum Act<'a> {
     Poll(usize, u64),
     /// This token asks for the values at this key.
     Ask(usize, &'a str),
-    /// This token asks of this expression.
+    /// This token asks about this expression.
     Values(usize, &'a [To<'a>]),
     Keys(usize, &'a [To<'a>]),
     Items(usize, &'a [To<'a>]),
@@ -169,7 +169,7 @@ fn question(alloc: Global, act: Act) -> Result<Option<(usize, Question)>, Refusa
     })
 }
 
-/// An act that is a phase of the writer, a poll, or of peers.
+/// An act that is a phase of the writer, a poll, or an act of an exchange.
 fn other_act(alloc: Global, act: Act) -> Result<Option<WorldAct>, Refusal> {
     Ok(Some(match act {
         Take => WorldAct::Take,

@@ -14,10 +14,10 @@ pub const CLIENTS: u64 = 2;
 /// The members. The engine is of replica 1.
 pub const MEMBERS: &[u32] = &[1, 3, 4];
 
-/// How many replicas write: the members, and replica 2, whose place in the table is behind theirs.
+/// How many replicas write: the members, and replica 2, whose index in the table is after theirs.
 const REPLICAS: u64 = 4;
 
-/// Something that is done with an engine. Tokens are the clients', then the reader's.
+/// Something that is done with an engine. Tokens are first the clients', then the reader's.
 #[derive(Debug, Drop)]
 pub enum Act {
     Submit {
@@ -78,7 +78,7 @@ impl Probe {
     }
 }
 
-/// This many acts, and then what both have is sent to a peer.
+/// This many acts; at the end, what both engines have is sent to a peer.
 pub fn random_acts(alloc: Global, dice: Dice, count: u32) -> Result<Vec<Act>, Refusal> {
     let mut dice = dice;
     let mut acts = Vec::new(alloc);
@@ -90,7 +90,7 @@ pub fn random_acts(alloc: Global, dice: Dice, count: u32) -> Result<Vec<Act>, Re
     Ok(acts)
 }
 
-/// The next act of a play. Commands, operations and questions speak of few elements, so that they meet.
+/// The next act of a play. Commands, operations and questions use few elements, so that they meet.
 fn next_act(alloc: Global, dice: &mut Dice) -> Result<Act, Refusal> {
     let client = dice.roll(CLIENTS) as usize;
     let token = dice.roll(CLIENTS + 1) as usize;
@@ -189,7 +189,7 @@ fn counters(dice: &mut Dice) -> [u64; 4] {
     ]
 }
 
-/// The counter after these operations, or sometimes a greater one.
+/// The counter after these operations, or occasionally a greater one.
 fn counter_after(deps: [u64; 4], dice: &mut Dice) -> u64 {
     let [first, second, third, fourth] = deps;
     let next = first.max(second).max(third).max(fourth).saturating_add(1);
@@ -213,7 +213,7 @@ fn mutation(alloc: Global, dice: &mut Dice) -> Result<Mutation, Refusal> {
     Ok(Mutation::Assign(value(alloc, dice)?))
 }
 
-/// An operation of any replica, most of them ready one after another, some too early, some known, some forged.
+/// An operation of any replica: most are ready one after another, some come too early, some are known, some are forged.
 fn op(alloc: Global, dice: &mut Dice) -> Result<Shared<Op>, Refusal> {
     let replica = dice.roll(REPLICAS) as u32 + 1;
     let deps = counters(dice);

@@ -40,8 +40,7 @@ struct Engine<'a, N: EngineName> {
     reader: &'a mut ReaderToken<N>,
 }
 
-/// Plays these acts on a new world and a new engine, with queues of this capacity and batches of this size. Fails where their answers
-/// differ.
+/// Plays these acts on a new world and a new engine, with queues of this capacity and batches of this size. Fails if their answers differ.
 pub fn play<R: Wait + Abort>(
     rt: &R,
     alloc: Global,
@@ -81,7 +80,7 @@ fn play_in<N: EngineName, R: Wait + Abort>(
     same
 }
 
-/// Plays an act on both, and asserts that they answer the same.
+/// Plays an act on both, and asserts that they give the same answer.
 fn act_on_both<N: EngineName, R: Wait + Abort>(
     rt: &R,
     alloc: Global,
@@ -96,7 +95,7 @@ fn act_on_both<N: EngineName, R: Wait + Abort>(
     Ok(())
 }
 
-/// Plays an act on both: whether they answer the same.
+/// Plays an act on both. Returns whether they give the same answer.
 fn is_same<N: EngineName, R: Wait>(
     rt: &R,
     alloc: Global,
@@ -120,7 +119,7 @@ fn is_same<N: EngineName, R: Wait>(
     }
 }
 
-/// What the world's engine replies to an act.
+/// The reply of the world's engine to an act.
 pub fn reply(alloc: Global, world: &mut World, act: WorldAct) -> Result<WorldReply, Fail> {
     let step = WorldStep { engine: 0, act };
     let mut replies = world.run(alloc, &[step])?;
@@ -151,7 +150,7 @@ fn submit<N: EngineName, R: Wait>(
     Ok(is_same_ticket(&told, &ticket))
 }
 
-/// What a client of the engine of threads is answered to a command.
+/// The answer that a client of the engine of threads gets to a command.
 fn submitted<N: EngineName, R: Wait>(
     rt: &R,
     alloc: Global,
@@ -189,7 +188,7 @@ fn deliver<N: EngineName, R: Wait>(
     Ok(is_same_receipt(&told, &ticket))
 }
 
-/// What a client of the engine of threads is answered to an operation.
+/// The answer that a client of the engine of threads gets to an operation.
 fn delivered<N: EngineName, R: Wait>(
     rt: &R,
     alloc: Global,
@@ -234,7 +233,7 @@ fn step<N: EngineName, R: Wait>(
     Ok(is_same_step(&told, &stepped))
 }
 
-/// The engine steps, with batches of one, and the world's engine takes, publishes and gives.
+/// The engine steps with batches of one, and the world's engine takes, publishes and gives.
 fn single_steps<N: EngineName, R: Wait>(
     rt: &R,
     alloc: Global,
@@ -304,7 +303,7 @@ fn ask<N: EngineName>(
     Ok(is_same_answer(&told, &read, seen_len(engine, token) as u64))
 }
 
-/// What the world's engine replies to a question.
+/// The reply of the world's engine to a question.
 fn told(alloc: Global, world: &mut World, token: usize, probe: &Probe) -> Result<WorldReply, Fail> {
     let act = WorldAct::Ask {
         token,
@@ -313,7 +312,7 @@ fn told(alloc: Global, world: &mut World, token: usize, probe: &Probe) -> Result
     reply(alloc, world, act)
 }
 
-/// Whether the world's reply is this answer, by a token that has seen this many entries.
+/// Whether the world's reply is this answer, from a token that has seen this many entries.
 fn is_same_answer(told: &WorldReply, read: &Result<Reading, Refusal>, length: u64) -> bool {
     match (told, read) {
         (WorldReply::Read { seen, reading, .. }, Ok(read)) => {

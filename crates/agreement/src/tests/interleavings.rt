@@ -1,9 +1,9 @@
 //! Two clients, a writer and a reader take their turns in every order.
 //!
 //! No test can force a schedule of threads, so each order is played on one thread: on an engine of threads, one call after another, and on
-//! a new world in the same order, whose writer takes, publishes and gives where the engine steps. All answers of both are compared, and at
-//! the end what each token sees. Other calls don't come between the take, the publish and the answer of one step here, nor within any
-//! other call: the contracts speak of those.
+//! a new world in the same order, whose writer takes, publishes and gives when the engine steps. All answers of both are compared, and at
+//! the end what each token sees. Other calls don't come between the take, the publish and the answer of one step here, or within any other
+//! call: those are up to the contracts.
 
 use super::acts::{Act, Kind, Probe};
 use super::both::play;
@@ -24,7 +24,7 @@ enum Move {
     List(usize),
     /// A client inserts at the head of the list.
     Insert(usize),
-    /// A client writes over the first item of the list.
+    /// A client overwrites the first item of the list.
     Write(usize),
     /// A client deletes the first item of the list.
     Delete(usize),
@@ -38,7 +38,7 @@ enum Move {
     Values(usize),
 }
 
-/// What follows each order: the writer handles what it can still find, the clients poll, and all tokens look.
+/// What follows each order: the writer handles what is left, the clients poll, and all tokens look.
 const LAST: &[Move] = &[
     Move::Step,
     Move::Step,
@@ -81,7 +81,7 @@ fn polls_in_every_order(rt: HostRuntime) -> Result<(), Fail> {
     play_all(&rt, rt.alloc(), &TURNS, &mut order, 1_680)
 }
 
-/// Plays this order of the actors and all that come after it, and asserts how many there are.
+/// Plays this order of the actors and all orders after it, and asserts how many there are.
 fn play_all<R: Wait + Abort>(
     rt: &R,
     alloc: Global,

@@ -1,7 +1,7 @@
-//! Every order in which actors can take their turns.
+//! Every order in which actors can take turns.
 
-/// Turns an order into the next one in lexicographic order. Each number occurs in it as often as before. False at the last order, which
-/// stays.
+/// Turns an order into the next one in lexicographic order, with each number as often as before. Returns false for the last order, which it
+/// leaves.
 pub fn next_order(order: &mut [usize]) -> bool {
     let Some(index) = last_rise(order) else {
         return false;
@@ -24,7 +24,7 @@ fn last_rise(order: &[usize]) -> Option<usize> {
     found
 }
 
-/// Swaps the number at an index with the last one behind it that is greater.
+/// Swaps the number at an index with the last greater one after it.
 fn swap_with_next_greater(order: &mut [usize], index: usize) {
     let mut with = index;
     for other in index..order.len() {

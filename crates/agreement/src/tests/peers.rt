@@ -1,4 +1,4 @@
-//! What both engines send to a peer: an engine of threads as bytes, a world's as values, which are written as bytes here.
+//! What both engines send to a peer: an engine of threads sends bytes, a world's sends values, which are written as bytes here.
 
 use super::acts::CLIENTS;
 use super::both::reply;
@@ -11,14 +11,14 @@ use std::test::Fail;
 use wire::{read_vector, write_bundle, write_vector};
 use world::{World, WorldAct, WorldReply};
 
-/// The hellos of a peer that has nothing, of one that has a little, and of one that has all that the members may have written.
+/// The hellos of a peer that has nothing, of one that has a little, and of one that has everything that the members may have written.
 const HELLOS: [&[u8]; 3] = [
     br#"["hello",[]]"#,
     br#"["hello",[[1,2],[3,1]]]"#,
     br#"["hello",[[1,1000],[3,1000],[4,1000]]]"#,
 ];
 
-/// Whether both send the same hello, and answer each of the hellos alike; the answer to the first of them is the whole history.
+/// Whether both send the same hello, and give the same answer to each of the hellos; the answer to the first of them is the whole history.
 pub fn send_the_same<N: EngineName>(
     alloc: Global,
     world: &mut World,
@@ -49,7 +49,7 @@ fn line_of(alloc: Global, vector: &NamedVector) -> Result<Vec<u8>, AllocError> {
     Ok(line)
 }
 
-/// The lines of what a hello lacks of the world's engine.
+/// The lines of what the world's engine has and a hello lacks.
 fn world_answer(alloc: Global, world: &mut World, hello: &[u8]) -> Result<Vec<u8>, Fail> {
     let vector = read_vector(alloc, hello)?;
     let act = WorldAct::Ask {

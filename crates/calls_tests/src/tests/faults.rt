@@ -61,7 +61,7 @@ const WRONG_PARTS: &[&str] = &[
     r#"["status",1]"#,
 ];
 
-/// A key of 257 bytes stands where each has a hash, and the first fault from the left decides.
+/// A key of 257 bytes replaces each hash, and the first fault from the left decides.
 const AROUND_A_LONG_KEY: &[(&str, &str, Refusal)] = &[
     (r#"["assign",["#, "],1.5]", Refusal::KeyTooLong),
     (r#"["delete",[-1,"#, "]]", Refusal::BadLine),
@@ -146,7 +146,7 @@ fn long(alloc: Global, before: &str, letters: u32, behind: &str) -> Result<Strin
     Ok(text)
 }
 
-/// Asserts that the line is refused for this.
+/// Asserts that the line is refused for this reason.
 fn is_refused(rt: &impl Abort, alloc: Global, line: &[u8], want: Refusal) {
     match read_call(alloc, line) {
         Ok(_) => assert!(rt; false),

@@ -58,7 +58,7 @@ const OTHERS: &[Row] = &[
     (r#"["status"]"#, "status"),
 ];
 
-/// White space wherever JSON allows it, and letters as their numbers.
+/// White space wherever JSON allows it, and letters escaped by their numbers.
 const OTHERWISE_WRITTEN: &[Row] = &[
     (" [ \"assign\" , [ \"a\" ] ,\t\"x\" ]\r", "assign /a text x"),
     ("\n[\"hello\"\n]\n", "hello"),
@@ -92,7 +92,7 @@ fn white_space_and_escapes(rt: HostRuntime) -> Result<(), Fail> {
     Ok(())
 }
 
-/// Asserts that each line calls for what stands beside it.
+/// Asserts that each line calls for what its row says.
 fn call_for(rt: &impl Abort, alloc: Global, rows: &[Row]) -> Result<(), Refusal> {
     for (line, want) in rows {
         calls_for(rt, alloc, line, want)?;

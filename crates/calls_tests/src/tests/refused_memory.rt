@@ -1,7 +1,7 @@
-//! Calls are read and responses written, although an allocation fails.
+//! Calls are read and responses written, even if an allocation fails.
 //!
-//! To be run with each allocation refused in turn (`tests/refused_memory.sh`): what is refused is called once more, so each run passes,
-//! and each answer that isn't refused is that of a run in which no allocation fails.
+//! Run with each allocation refused in turn (`tests/refused_memory.sh`): a refused call is made once more, so each run passes, and each
+//! answer that isn't refused is that of a run in which no allocation fails.
 
 use super::responses::{Said, response};
 use super::showing::shown;
@@ -67,7 +67,7 @@ fn is_read_again(rt: &impl Abort, alloc: Global, line: &str, want: &str) -> Resu
     Ok(())
 }
 
-/// What the line calls for, at the second attempt if an allocation of the first fails.
+/// The call of a line, at the second attempt if an allocation of the first fails.
 fn read_again(alloc: Global, line: &[u8]) -> Result<Call, Refusal> {
     match read_call(alloc, line) {
         Err(Refusal::NoMemory) => read_call(alloc, line),

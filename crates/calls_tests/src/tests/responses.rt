@@ -8,7 +8,7 @@ use std::alloc::Global;
 use std::process::Abort;
 use std::test::Fail;
 
-/// A response, as a constant can have it.
+/// A response, in a form that a constant can have.
 #[derive(Clone, Copy)]
 pub(super) enum Said {
     Made(Pair, u64),
@@ -17,7 +17,7 @@ pub(super) enum Said {
     Keys(u64, &'static [&'static str]),
     Items(u64, &'static [Pair]),
     Vector(u64, &'static [Pair]),
-    /// An empty map, and whether more stands in it.
+    /// An empty map, and whether more is in it.
     Map(u64, bool),
     Hello(&'static [Pair]),
     Bundle(&'static str, bool, bool),
@@ -130,7 +130,7 @@ fn responses_of_the_program(rt: HostRuntime) -> Result<(), Fail> {
     Ok(())
 }
 
-/// Asserts that each response is written as stands beside it, with a line feed.
+/// Asserts that each response is written as its row says, with a line feed.
 fn are_written(rt: &impl Abort, alloc: Global, cases: &[Case]) -> Result<(), Refusal> {
     for (said, want) in cases {
         is_written(rt, alloc, *said, want)?;
@@ -168,7 +168,7 @@ pub(super) fn response(alloc: Global, said: Said) -> Result<Response, Refusal> {
     }
 }
 
-/// A response without parts that take memory.
+/// A response without parts that need an allocation.
 fn plain_response(said: Said) -> Response {
     match said {
         Said::Received(taken, refused, stopped) => Response::Received {

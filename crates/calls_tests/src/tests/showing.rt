@@ -1,4 +1,4 @@
-//! A call as a text that a row of a test has: its word, and its parts with spaces between them.
+//! A call in the text form that rows of tests have: its word, and its parts with spaces between them.
 
 use calls::Call;
 use document::{Command, Expr, ExprStep, Question, Scalar, Val};
@@ -79,7 +79,7 @@ fn put_glance(
     put_number(alloc, out, elements)
 }
 
-/// A word and an expression: the steps from the root, each behind a stroke.
+/// A word and an expression: the steps from the root, each after a slash.
 fn put_asked(
     alloc: Global,
     out: &mut String,

@@ -1,10 +1,10 @@
-//! Whole runs of a script: what is printed, what is told, and the status.
+//! Whole runs of a script: what is printed, what is reported, and the status.
 
 use cli::run_script;
 use std::alloc::Global;
 use std::process::Abort;
 
-/// A script, what is printed, what is told and the status.
+/// A script, what is printed, what is reported and the status.
 type Run<'a> = (&'a str, &'a str, &'a str, u8);
 
 const RUNS: &[Run] = &[

@@ -57,7 +57,7 @@ impl Write for Full {
     }
 }
 
-/// How many bytes are read before a read fails, the error, what is told then, and the status.
+/// How many bytes are read before a read fails, the error, what is then reported, and the status.
 type Broken<'a> = (usize, ErrorKind, &'a str, u8);
 
 const BROKEN: &[Broken] = &[
@@ -73,7 +73,7 @@ const BROKEN: &[Broken] = &[
     (31, ErrorKind::OutOfMemory, "jdoc: no memory\n", 4),
 ];
 
-/// Asserts that a run whose reader fails like this prints nothing, what it tells, and its status.
+/// Asserts that a run whose reader fails like this prints nothing, and asserts what it reports and its status.
 fn is_broken(rt: &impl Abort, alloc: Global, row: &Broken) {
     let (given, kind, told, wanted) = *row;
     let mut reader = Breaking {
@@ -102,8 +102,8 @@ fn printed(alloc: Global) -> Vec<u8> {
     out
 }
 
-/// Runs the script on a writer with this room, and asserts that it ends as not written and tells nothing. Returns what was taken of
-/// the replies.
+/// Runs the script on a writer with this room, and asserts that it ends as not written and reports nothing. Returns what was taken of the
+/// replies.
 fn not_written(rt: &impl Abort, alloc: Global, room: usize, flushes: bool) -> Vec<u8> {
     let mut out = Full {
         taken: Vec::new(alloc),
@@ -117,7 +117,7 @@ fn not_written(rt: &impl Abort, alloc: Global, room: usize, flushes: bool) -> Ve
     out.taken
 }
 
-/// Asserts that what is taken is a beginning of the replies, as much as there is room for.
+/// Asserts that what is taken is a prefix of the replies, as long as there is room for.
 fn takes_a_part(rt: &impl Abort, alloc: Global, whole: &[u8], room: usize) {
     let taken = not_written(rt, alloc, room, true);
     assert_eq!(rt; taken.len(), room);
@@ -138,7 +138,7 @@ fn replies_that_are_not_flushed(rt: HostRuntime) {
     not_written(&rt, rt.alloc(), 1000, false);
 }
 
-/// Asserts that a run with this room for its faults prints nothing, tells as much as there is room for, and ends as not written.
+/// Asserts that a run with this room for its faults prints nothing, reports as much as there is room for, and ends as not written.
 fn is_not_told<R: Read>(rt: &impl Abort, alloc: Global, reader: &mut R, room: usize) {
     let mut faults = Full {
         taken: Vec::new(alloc),

@@ -91,7 +91,7 @@ fn a_document_is_served(rt: HostRuntime) {
     }
 }
 
-/// Why there is no job, the status of that, and what is told.
+/// Why there is no job, the status of that, and what is reported.
 fn refusal(alloc: Global, words: &[&str]) -> Option<(ErrorKind, Status, Vec<u8>)> {
     let why = read_words(alloc, words).err()?;
     let mut told = Vec::new(alloc);
@@ -102,19 +102,19 @@ fn refusal(alloc: Global, words: &[&str]) -> Option<(ErrorKind, Status, Vec<u8>)
     Some((error.kind(), status, told))
 }
 
-/// How the help of the program begins: what it is for, and how it is called.
+/// The beginning of the program's help: what it is for, and how it is called.
 const HELP: &str = "Serves a shared document, and runs engines of one
 
 Usage: jdoc <COMMAND>
 ";
 
-/// How the help of `run` begins.
+/// The beginning of the help of `run`.
 const RUN_HELP: &str = "Runs a script and prints what each step replies
 
 Usage: jdoc run [SCRIPT]
 ";
 
-/// Words that ask for help, and how that begins.
+/// Words that ask for help, and the beginning of that help.
 const HELPS: &[(&[&str], &str)] = &[
     (&["--help", "run"], HELP),
     (&["-h", "run"], HELP),
@@ -131,7 +131,8 @@ fn help_is_told_as_a_fault(rt: HostRuntime) {
     }
 }
 
-/// Asserts that words are refused for this reason, with the status of bad words, and that what is told begins so and ends a line.
+/// Asserts that words are refused for this reason, with the status of bad words, and that what is reported begins like this and ends a
+/// line.
 fn is_told(
     rt: &impl Abort,
     told: Option<(ErrorKind, Status, Vec<u8>)>,

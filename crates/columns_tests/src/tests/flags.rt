@@ -17,7 +17,7 @@ fn put(alloc: Global, fields: &mut Fields, number: usize) -> Result<(), Fail> {
     Ok(())
 }
 
-/// This many fields. First come those of even numbers, and then the others go in between them.
+/// This many fields. Those of even numbers come first, and then the others go in between them.
 fn fields_of(alloc: Global, count: usize) -> Result<Fields, Fail> {
     let mut fields = Fields::new(alloc);
     for half in 0..count.div_ceil(2) {
@@ -38,7 +38,7 @@ fn set_flags(fields: &mut Fields, positions: &[usize], flag: bool) {
     }
 }
 
-/// The first of these positions, which rise, from this one on, or how many fields there are if none of them has a field.
+/// The first of these ascending positions from this one on, or the number of fields if none of them has a field.
 fn first_from(positions: &[usize], from: usize, count: usize) -> usize {
     for position in positions {
         if *position >= from {
@@ -48,7 +48,7 @@ fn first_from(positions: &[usize], from: usize, count: usize) -> usize {
     count
 }
 
-/// The positions at the borders of the first two rings, and of what stands behind them.
+/// The positions at the borders of the first two rings, and of what is after them.
 const BORDERS: &[usize] = &[0, 1, 2046, 2047, 2048, 2049, 4095, 4096, 4097, 4099];
 
 /// Asserts that flags are raised at these positions alone, as seen from the borders.
@@ -62,7 +62,7 @@ fn assert_raised(rt: &impl Abort, fields: &Fields, raised: &[usize]) {
     }
 }
 
-/// Raises flags at the borders one by one, at all of them, and none.
+/// Raises flags at the borders one by one, at all of them, and at none.
 fn assert_borders(rt: &impl Abort, alloc: Global, count: usize) -> Result<(), Fail> {
     let mut fields = fields_of(alloc, count)?;
     assert_eq!(rt; fields.len(), count);
@@ -101,7 +101,7 @@ fn even_fields(alloc: Global) -> Result<Fields, Fail> {
 fn flags_move_with_their_fields(rt: HostRuntime) -> Result<(), Fail> {
     let mut fields = even_fields(rt.alloc())?;
     set_flags(&mut fields, &[1, 2046, 4095, 4099], true);
-    // A field goes in between 2 and 4, one between 5,000 and 5,002, and one behind all: their flags are lowered.
+    // A field is inserted between 2 and 4, one between 5,000 and 5,002, and one after all: their flags are lowered.
     put(rt.alloc(), &mut fields, 3)?;
     assert_raised(&rt, &fields, &[1, 2047, 4096, 4100]);
     put(rt.alloc(), &mut fields, 5001)?;

@@ -5,7 +5,7 @@ use std::alloc::Global;
 use std::process::Abort;
 use value::Key;
 
-/// The greatest count of probes that a search may start from.
+/// The most probes that a search may start from.
 const BEFORE: u64 = 18_446_744_073_709_551_550;
 
 /// Puts a key that isn't there yet.
@@ -62,7 +62,7 @@ fn assert_keys(rt: &impl Abort, keys: &SortedKeys, want: &[(&str, usize)]) {
     }
 }
 
-/// Asserts that what a search answers is the same wherever it begins to look.
+/// Asserts that a search gives the same answer wherever it begins to look.
 fn assert_any_hint(rt: &impl Abort, keys: &SortedKeys, key: &Key, want: Result<usize, usize>) {
     for hint in 0..9 {
         assert_eq!(rt; keys.find_with_hint(key, hint, &mut 0), want, "hint {hint}");
@@ -83,7 +83,7 @@ fn assert_found(
     Ok(())
 }
 
-/// Asserts that a search for each text that looks here first compares at most this many keys.
+/// Asserts that a search for each text, starting here, compares at most this many keys.
 fn assert_few_probes(
     rt: &impl Abort,
     alloc: Global,
@@ -119,7 +119,7 @@ fn assert_most_probes(rt: &impl Abort, alloc: Global, count: usize, most: u64) -
     Ok(())
 }
 
-/// Asserts how many keys each search among 255 compares that looks first at this one.
+/// Asserts how many keys each search among 255 compares, starting at this one.
 fn assert_probes(
     rt: &impl Abort,
     alloc: Global,
@@ -163,7 +163,7 @@ fn keys_stand_in_byte_order(rt: HostRuntime) -> Result<(), Fail> {
     )
 }
 
-/// Keys that share their first eight bytes, or have them alone, are told apart by what follows, and by their lengths.
+/// Keys that share their first eight bytes, or have no others, are distinguished by what follows, and by their lengths.
 #[test]
 fn keys_with_one_beginning_stand_in_byte_order(rt: HostRuntime) -> Result<(), Fail> {
     let keys = keys_of(
@@ -207,7 +207,7 @@ fn keys_with_one_beginning_stand_in_byte_order(rt: HostRuntime) -> Result<(), Fa
     )
 }
 
-/// At most as many as the number of keys has binary digits, and one more.
+/// At most the number of binary digits of the number of keys, and one more.
 #[test]
 fn searches_look_at_few_keys(rt: HostRuntime) -> Result<(), Fail> {
     for (count, most) in [(0, 0), (1, 2), (2, 3), (3, 3), (255, 9), (256, 10)] {
@@ -216,8 +216,8 @@ fn searches_look_at_few_keys(rt: HostRuntime) -> Result<(), Fail> {
     Ok(())
 }
 
-/// Of 255 keys at most 127 may stand on either side of the second one that is looked at, then 63, then 31, and so on. So behind 0127 the
-/// next one is looked at right away, and behind 0064 first 0127.
+/// Of 255 keys, at most 127 may be on either side of the second one that is looked at, then 63, then 31, and so on. So after 0127 the next
+/// one is looked at right away, and after 0064 first 0127.
 #[test]
 fn searches_look_at_the_hint_and_then_near_it(rt: HostRuntime) -> Result<(), Fail> {
     assert_probes(

@@ -4,7 +4,7 @@ use super::*;
 use std::alloc::Global;
 use std::process::Abort;
 
-/// An item, and the one that it is put after; `None` stands for the head.
+/// An item, and the one after which it is put; `None` means the head.
 type Row = (Option<Pair>, Pair);
 
 /// Puts an item.
@@ -59,7 +59,7 @@ fn assert_items(
     Ok(())
 }
 
-/// Asserts that an id is no item.
+/// Asserts that no item has this id.
 fn assert_absent(rt: &impl Abort, order: &ListOrder, pair: Pair) -> Result<(), Fail> {
     let id = id_of(pair)?;
     assert!(rt; !order.contains(&id));
@@ -116,7 +116,7 @@ fn show(order: &mut ListOrder, pair: Pair, shown: bool) -> Result<(), Fail> {
     Ok(())
 }
 
-/// The item with this index among those that are shown.
+/// The shown item with this index, counted among the shown ones.
 fn nth(order: &ListOrder, index: usize) -> Option<Pair> {
     order.nth_visible(index).map(pair_of)
 }
@@ -141,7 +141,8 @@ fn only_shown_items_are_counted(rt: HostRuntime) -> Result<(), Fail> {
     Ok(())
 }
 
-/// Asserts that so many items, each put after the one before it or each at the head, are those from `1@1` on, or the other way.
+/// Asserts that this many items, each put after the one before it or each at the head, are those from `1@1` on, in ascending or descending
+/// order.
 fn assert_long(rt: &impl Abort, alloc: Global, count: u64, at_head: bool) -> Result<(), Fail> {
     let mut order = ListOrder::new(alloc);
     let mut want = Vec::new(alloc);
@@ -173,7 +174,62 @@ fn long_lists_stand_in_blocks(rt: HostRuntime) -> Result<(), Fail> {
     assert_long(&rt, rt.alloc(), 3000, true)
 }
 
-/// Asserts that so many of the shown items are the first of all that are shown.
+/// Puts `count` items of a replica, each after the one before it or each at the head, and shows them.
+fn put_those_of(
+    order: &mut ListOrder,
+    replica: u32,
+    count: u64,
+    at_head: bool,
+) -> Result<(), Fail> {
+    for number in 0..count {
+        let item = (number + 1, replica);
+        let prev = if at_head || number == 0 {
+            None
+        } else {
+            Some((number, replica))
+        };
+        put(order, (prev, item))?;
+        show(order, item, true)?;
+    }
+    Ok(())
+}
+
+/// The items of the replicas 1 and 2 where those of 2 came after those of 1: all of 2 go first, or each goes before that of 1 with its
+/// counter, from the greatest down.
+fn met(alloc: Global, count: u64, at_head: bool) -> Result<Vec<Pair>, Fail> {
+    let mut items = Vec::new(alloc);
+    for number in 0..count {
+        if at_head {
+            items.push((count - number, 2))?;
+            items.push((count - number, 1))?;
+        } else {
+            items.push((number + 1, 2))?;
+        }
+    }
+    if !at_head {
+        for number in 0..count {
+            items.push((number + 1, 1))?;
+        }
+    }
+    Ok(items)
+}
+
+#[test]
+fn lists_that_meet_keep_each_item(rt: HostRuntime) -> Result<(), Fail> {
+    let alloc = rt.alloc();
+    for count in [40, 512, 513, 700] {
+        for at_head in [false, true] {
+            let mut order = ListOrder::new(alloc);
+            put_those_of(&mut order, 1, count, at_head)?;
+            put_those_of(&mut order, 2, count, at_head)?;
+            let want = met(alloc, count, at_head)?;
+            assert_items(&rt, alloc, &mut order, &want)?;
+        }
+    }
+    Ok(())
+}
+
+/// Asserts that this many shown items are the first of all shown items.
 fn assert_first(
     rt: &impl Abort,
     alloc: Global,
@@ -187,7 +243,7 @@ fn assert_first(
     Ok(())
 }
 
-/// So many items, each put after the one before it. Each third one isn't shown.
+/// This many items, each put after the one before it. Every third one isn't shown.
 fn with_hidden(alloc: Global, count: u64) -> Result<ListOrder, Fail> {
     let mut order = ListOrder::new(alloc);
     put(&mut order, (None, (1, 1)))?;

@@ -1,4 +1,4 @@
-//! Presences: the ids that keep an element visible, and as what something stands there.
+//! Presences: the ids that keep an element visible, and which kinds of value are present.
 
 ghost use Rattle.std.specs.Prelude.{◌<◌, IfOk};
 ghost use Rattle.std.specs.List.{All};
@@ -9,7 +9,7 @@ use fixtures::vector;
 use std::alloc::Global;
 use std::process::Abort;
 
-/// An id, and the tag with which it stands.
+/// An id, and its tag.
 type Row = (Pair, Tag);
 
 /// Ids in mixed order. Two of them get another tag.
@@ -46,7 +46,7 @@ fn presence(alloc: Global, rows: &[Row]) -> Result<Presence, Fail>
     Ok(presence)
 }
 
-/// What is left of such a presence, cleared by the vector of these counters.
+/// What is left of such a presence after it is cleared by the vector of these counters.
 fn left(alloc: Global, rows: &[Row], counters: [u64; 2]) -> Result<Presence, Fail> {
     let vector = vector(alloc, &counters)?;
     let mut presence = presence(alloc, rows)?;
@@ -54,11 +54,11 @@ fn left(alloc: Global, rows: &[Row], counters: [u64; 2]) -> Result<Presence, Fai
     Ok(presence)
 }
 
-/// As what something stands at these ids, by a look at each.
-fn standing(presence: &Presence) -> (bool, bool, bool) {
+/// Which kinds of value are present at these ids, by a look at each.
+fn standing(tags: &[(OpId, Tag)]) -> (bool, bool, bool) {
     let (mut register, mut map, mut list) = (false, false, false);
-    for position in 0..presence.len() {
-        match presence.at(position).1 {
+    for (_, tag) in tags {
+        match tag {
             Tag::Reg => register = true,
             Tag::Map => map = true,
             Tag::List => list = true,
@@ -67,19 +67,30 @@ fn standing(presence: &Presence) -> (bool, bool, bool) {
     (register, map, list)
 }
 
-/// Asserts the tags of a presence, in order, and as what something stands there.
-fn assert_tags(rt: &impl Abort, presence: &Presence, want: &[Tag]) {
+/// Asserts the tags of a presence, in order, and which kinds of value are present.
+fn assert_tags(
+    rt: &impl Abort,
+    alloc: Global,
+    presence: &Presence,
+    want: &[Tag],
+) -> Result<(), Fail> {
+    let tags = presence.copy(alloc)?;
     assert_eq!(rt; presence.len(), want.len());
+    assert_eq!(rt; tags.len(), want.len());
     for (position, tag) in want.iter().enumerate() {
-        assert_eq!(rt; *presence.at(position).1, *tag, "at {position}");
+        assert_eq!(rt; tags[position].1, *tag, "at {position}");
     }
-    assert_kinds(rt, presence);
+    assert_kinds(rt, alloc, presence)
 }
 
-/// Asserts that a presence knows what a look at each id tells.
-fn assert_kinds(rt: &impl Abort, presence: &Presence) {
+/// Asserts that a presence knows what a look at each id shows.
+fn assert_kinds(rt: &impl Abort, alloc: Global, presence: &Presence) -> Result<(), Fail> {
     let kinds = presence.kinds();
-    assert_eq!(rt; (kinds.register, kinds.map, kinds.list), standing(presence));
+    assert_eq!(rt;
+        (kinds.register, kinds.map, kinds.list),
+        standing(&presence.copy(alloc)?)
+    );
+    Ok(())
 }
 
 /// Puts tags in this order, clears them by the vector of these counters, and asserts what is left.
@@ -91,8 +102,7 @@ fn assert_left(
     want: &[Tag],
 ) -> Result<(), Fail> {
     let presence = left(alloc, given, counters)?;
-    assert_tags(rt, &presence, want);
-    Ok(())
+    assert_tags(rt, alloc, &presence, want)
 }
 
 #[test]
@@ -117,7 +127,7 @@ fn an_id_has_its_last_tag(rt: HostRuntime) -> Result<(), Fail> {
     assert_left(&rt, alloc, &MIXED, [5, 4], &[])
 }
 
-/// Asserts as what something stands where the first of the mixed ids stand, and then those that two counters leave.
+/// Asserts which kinds of value are present with the first of the mixed ids, and then with those that two counters leave.
 fn assert_kinds_of(
     rt: &impl Abort,
     alloc: Global,
@@ -126,10 +136,9 @@ fn assert_kinds_of(
 ) -> Result<(), Fail> {
     let rows = &MIXED[..count.min(MIXED.len())];
     let all = presence(alloc, rows)?;
-    assert_kinds(rt, &all);
+    assert_kinds(rt, alloc, &all)?;
     let few = left(alloc, rows, counters)?;
-    assert_kinds(rt, &few);
-    Ok(())
+    assert_kinds(rt, alloc, &few)
 }
 
 #[test]

@@ -1,4 +1,4 @@
-//! Registers: the values that stand at each id.
+//! Registers: the value of each id.
 
 ghost use Rattle.std.specs.Prelude.{◌<◌, IfOk};
 ghost use Rattle.std.specs.List.{All};
@@ -9,7 +9,7 @@ use std::alloc::Global;
 use std::process::Abort;
 use value::Scalar;
 
-/// An id, and the whole number that stands there.
+/// An id, and its whole number.
 type Row = (Pair, i64);
 
 const FOUR: [Row; 4] = [((1, 1), 10), ((2, 2), 20), ((3, 1), 30), ((3, 2), 40)];

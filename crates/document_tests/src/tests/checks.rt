@@ -12,7 +12,7 @@ use std::test::Fail;
 
 const KEY: &[Hop] = &[Field("key")];
 
-/// Replica 1 writes at the key, and once both have seen that, replica 1 and replica 2 write there apart.
+/// Replica 1 writes at the key, and once both have seen that, replica 1 and replica 2 write there concurrently.
 pub const A: Sent = ((1, 1), &[0, 0, 0], KEY, Assign(Text("A")));
 
 pub const B: Sent = ((2, 1), &[1, 0, 0], KEY, Assign(Text("B")));
@@ -65,7 +65,7 @@ fn what_was_not_applied_is_waited_for(rt: HostRuntime) -> Result<(), Fail> {
     on_new(&rt, rt.alloc(), &[A, B, C], &[Waits(OP)])
 }
 
-/// Operations of two replicas, each of which has seen all before it; the last has the counter 6.
+/// Operations of two replicas, each of which has seen all before it; the last one has the counter 6.
 const IN_TURNS: &[Sent] = &[
     ((1, 1), &[0, 0, 0], KEY, Assign(Text("A"))),
     ((2, 1), &[1, 0, 0], KEY, Assign(Text("B"))),

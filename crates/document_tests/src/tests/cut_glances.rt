@@ -1,4 +1,4 @@
-//! A glance that is cut is the beginning of the whole one.
+//! A glance that is cut is a prefix of the whole one.
 
 use super::playing::Does::{Assign, Insert};
 use super::playing::Hop::{Field, Head, Item};
@@ -27,13 +27,13 @@ fn are_first(rows: &[Row], all: &[Row]) -> bool {
     rows.len() <= all.len()
 }
 
-/// The whole document at a glance, with so many elements.
+/// The whole document at a glance, with at most this many elements.
 fn glance(alloc: Global, document: &Document, elements: usize) -> Result<Glance, Refusal> {
     let root = expr(alloc, &[])?;
     document.glance(alloc, &root, 32, elements)
 }
 
-/// Asserts that a glance with so many elements shows the first of all rows.
+/// Asserts that a glance with at most this many elements shows the first of all rows.
 fn assert_first(
     rt: &impl Abort,
     alloc: Global,
@@ -50,7 +50,7 @@ fn assert_first(
     Ok(())
 }
 
-/// Asserts that there are so many rows, and that glances with fewer elements show the first of them.
+/// Asserts that there are this many rows, and that glances with fewer elements show the first of them.
 fn assert_cut(
     rt: &impl Abort,
     alloc: Global,
@@ -66,7 +66,7 @@ fn assert_cut(
     Ok(())
 }
 
-/// Makes a list with the operations up to this one: an item with each but the first, put after the one before it.
+/// Makes a list with the operations up to this one: each but the first makes an item, put after the one before it.
 fn fill_list(
     rt: &impl Abort,
     alloc: Global,
@@ -97,7 +97,7 @@ fn long_lists_are_cut(rt: HostRuntime) -> Result<(), Fail> {
     Ok(())
 }
 
-/// Makes so many fields of the root.
+/// Makes this many fields of the root.
 fn fill_map(
     rt: &impl Abort,
     alloc: Global,

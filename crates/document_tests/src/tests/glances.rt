@@ -22,10 +22,10 @@ pub enum Entered<'a> {
     Id(Pair),
 }
 
-/// One element: how deep it is, how it is entered, as what something stands there, its values, and whether more stands beneath.
+/// One element: its depth, how it is entered, which kinds of value are present, its values, and whether more is beneath it.
 pub type Shown<'a> = (usize, Entered<'a>, Kinds, &'a [(Pair, Value<'a>)], bool);
 
-/// What is asked: where, how deep, and for how many elements.
+/// What is asked: where, to which depth, and for how many elements.
 pub type Asked<'a> = (&'a [Step<'a>], usize, usize);
 
 const NOTHING: Kinds = Kinds {
@@ -199,7 +199,7 @@ fn so_deep(rt: HostRuntime) -> Result<(), Fail> {
     on_new(&rt, rt.alloc(), SHOPPING, TURNS)
 }
 
-/// Two values at one key, of which neither writer saw the other's.
+/// Two values at one key, whose writers hadn't seen each other's.
 #[test]
 fn conflicts_are_shown_whole(rt: HostRuntime) -> Result<(), Fail> {
     const OPS: &[Sent] = &[
@@ -215,7 +215,7 @@ fn conflicts_are_shown_whole(rt: HostRuntime) -> Result<(), Fail> {
     on_new(&rt, rt.alloc(), OPS, &[Glance((&[], 1, 2), ROWS, false)])
 }
 
-/// A map stands beside a value, also when all that was in it is deleted.
+/// A map next to a value, also after everything in the map is deleted.
 #[test]
 fn kinds_stand_side_by_side(rt: HostRuntime) -> Result<(), Fail> {
     const WITHIN: &[Hop] = &[Field("a"), Field("b")];

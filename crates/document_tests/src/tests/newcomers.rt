@@ -32,7 +32,7 @@ fn a_newcomer_stands_behind_the_members(rt: HostRuntime) -> Result<(), Fail> {
     on_new_of(&rt, rt.alloc(), &[5], OPS, TURNS)
 }
 
-/// The item of the greater id stands first, though its replica's index is the smaller one.
+/// The item with the greater id comes first, though its replica has the smaller index.
 #[test]
 fn ids_order_items_and_indices_do_not(rt: HostRuntime) -> Result<(), Fail> {
     const OPS: &[Sent] = &[
@@ -138,7 +138,7 @@ fn at_most_256_replicas_are_in_a_document(rt: HostRuntime) -> Result<(), Fail> {
     Ok(on_full(&rt, rt.alloc(), &[], TURNS)?)
 }
 
-/// With each of these vectors and places, the operation of a member has another fault.
+/// With each of these vectors and places, the operation of a member has a different fault.
 #[test]
 fn room_is_tested_first(rt: HostRuntime) -> Result<(), Fail> {
     const OPS: &[Sent] = &[

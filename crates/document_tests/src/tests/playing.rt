@@ -1,7 +1,7 @@
-//! What is done with a document in a test, as a table of turns, and what plays it.
+//! What a test does with a document, as a table of turns, and what plays them.
 //!
 //! A call whose allocation is refused leaves the document as it was, and is made once more. So such a test passes whichever single
-//! allocation is refused; with none refused, nothing is called again.
+//! allocation is refused; if none is refused, nothing is called again.
 
 ghost use Rattle.std.specs.Prelude.{◌≡◌, false, None, IsTrue, OnOk};
 ghost use Rattle.ids.specs.Tables.{lacks_room};
@@ -41,7 +41,7 @@ pub enum Step<'a> {
     Get(&'a str),
     /// To the item with this index in the list here, from 1 on.
     Idx(u64),
-    /// To the item with this id in the list here, also where it isn't shown.
+    /// To the item with this id in the list here, even if it isn't shown.
     ById(Pair),
 }
 
@@ -72,7 +72,7 @@ pub enum Turn<'a> {
     Take(Sent<'a>),
     /// Reserves an operation, and no more.
     Reserve(Sent<'a>),
-    /// The fault of an operation that is ready and has none alone.
+    /// The fault, against the history, of an operation that is ready and has none by itself.
     Check(Sent<'a>, Result<(), Refusal>),
     /// An operation that isn't ready.
     Waits(Sent<'a>),
@@ -80,13 +80,13 @@ pub enum Turn<'a> {
     Has(Pair, bool),
     /// How many entries there are.
     Len(usize),
-    /// The values that stand where an expression leads, with the ids of what wrote them.
+    /// The values to which an expression leads, with the ids of the operations that wrote them.
     Values(&'a [Step<'a>], &'a [(Pair, Value<'a>)]),
     /// The keys of the map there.
     Keys(&'a [Step<'a>], &'a [&'a str]),
     /// The items of the list there.
     Items(&'a [Step<'a>], &'a [Pair]),
-    /// The ids of what stands there, each with its tag.
+    /// The ids of what is present there, each with its tag.
     Conflicts(&'a [Step<'a>], &'a [(Pair, Tag)]),
     /// The operations that a vector of these counters doesn't cover, by `missing` and by a question.
     Missing(&'a [u64], &'a [Pair]),
@@ -98,7 +98,7 @@ pub enum Turn<'a> {
     Glance(Asked<'a>, &'a [Shown<'a>], bool),
 }
 
-/// The place that a hop leads to from here.
+/// The place to which a hop leads from here.
 fn further(alloc: Global, place: &Place, hop: Hop) -> Result<Place, Refusal> {
     match hop {
         Hop::Field(key) => place.get(alloc, Key::new(alloc, key)?),
@@ -107,7 +107,7 @@ fn further(alloc: Global, place: &Place, hop: Hop) -> Result<Place, Refusal> {
     }
 }
 
-/// The place that these hops lead to from the root.
+/// The place to which these hops lead from the root.
 fn place(alloc: Global, hops: &[Hop]) -> Result<Place, Refusal> {
     let mut place = Place::doc(alloc);
     for hop in hops {
@@ -151,14 +151,14 @@ fn op(alloc: Global, sent: Sent) -> Result<Shared<Op>, Refusal> {
     }
 }
 
-/// Whether the operation has no fault alone.
+/// Whether the operation has no fault by itself.
 fn stands_alone(op: &Op) -> bool
     ensures { IsTrue result → alone_fault_of_op op.now ≡ None }
 {
     check_alone(op).is_ok()
 }
 
-/// The fault of an operation that is ready and has none alone.
+/// The fault, against the history, of an operation that is ready and has none by itself.
 fn check(rt: &impl Abort, document: &Document, op: &Op) -> Result<(), Refusal>
     ensures lawful { OnOk result (MayFollow (applied document.now.entries) (stamped_of op.now)) }
     ensures fits { OnOk result (lacks_room (table_after document.now.members document.now.entries) op.now.id.replica ≡ false) }
@@ -231,7 +231,7 @@ pub fn reserve_alone(
     Ok(reserve(rt, alloc, document, &op)?)
 }
 
-/// Asserts the fault of an operation that is ready and has none alone.
+/// Asserts the fault, against the history, of an operation that is ready and has none by itself.
 fn assert_check(
     rt: &impl Abort,
     alloc: Global,
@@ -264,7 +264,7 @@ pub fn expr(alloc: Global, path: &[Step]) -> Result<Expr, Refusal> {
     Ok(Expr::new(steps))
 }
 
-/// The question of a turn that asks one. The others are never asked.
+/// The question of a turn that asks one. Other turns are never asked for it.
 fn question(alloc: Global, turn: Turn) -> Result<Question, Refusal> {
     Ok(match turn {
         Turn::Values(path, _) => Question::Values(expr(alloc, path)?),

@@ -1,7 +1,6 @@
-//! A call whose allocation is refused leaves the document as it was, and answers as ever when it is called again.
+//! A call whose allocation is refused leaves the document as it was, and answers as usual when it is called again.
 //!
-//! To be run with each allocation refused in turn (`tests/refused_memory.sh`): what is refused is called once more, so each run
-//! passes.
+//! Run with each allocation refused in turn (`tests/refused_memory.sh`): a refused call is made once more, so each run passes.
 
 use super::playing::Does::{Assign, Delete, Insert};
 use super::playing::Hop::{Field, Head, Item};
@@ -84,7 +83,7 @@ fn both_kinds_stand(rt: HostRuntime) -> Result<(), Fail> {
     on_new(&rt, rt.alloc(), BOTH, WANTED)
 }
 
-/// Two that are no members write at the key that a member wrote at: 9, which has seen nothing, and then 5, which has seen the member's.
+/// Two nonmembers write at the key at which a member wrote: 9, which has seen nothing, and then 5, which has seen the member's write.
 #[test]
 fn newcomers_join(rt: HostRuntime) -> Result<(), Fail> {
     const K: &[Hop] = &[Field("k")];

@@ -1,9 +1,9 @@
-//! The atomic steps of an engine in every order that a small case allows.
+//! The atomic steps of an engine, in every order that a small case allows.
 //!
-//! Where a batch has one submission, a step of the writer takes it, publishes, and sets its answer; a client's submission is a push, its
-//! poll a get, and a question is an enter. No test can force a schedule of threads. So these steps are done here on one thread, in each
-//! order of two clients, a writer and a reader, and each answer is compared with what counting says: how many submissions were pushed,
-//! taken, published and answered.
+//! With a batch of one submission, a step of the writer takes it, publishes, and sets its answer; a client's submission is a push, its poll
+//! is a get, and a question is an enter. No test can force a schedule of threads. So these steps are done here on one thread, in each order
+//! of two clients, a writer and a reader, and each answer is compared with what counting says: how many submissions were pushed, taken,
+//! published and answered.
 
 mod schedules;
 
@@ -22,12 +22,12 @@ use std::marker::Brand;
 use std::process::Abort;
 use std::test::Fail;
 
-/// An atomic step, and whose it is.
+/// An atomic step, and the actor that makes it.
 #[derive(Clone, Copy)]
 enum Atomic {
-    /// A client pushes a submission. The n-th submission in the queue's order assigns n at the one key.
+    /// A client pushes a submission. The nth submission in the queue's order assigns n at the one key.
     Push(usize),
-    /// The writer takes a submission, if one waits, and handles it.
+    /// The writer takes a submission, if one is queued, and handles it.
     Take,
     Publish,
     /// The writer sets the answer of what it took.
@@ -64,7 +64,7 @@ const LAST: &[Atomic] = &[
     Atomic::Enter,
 ];
 
-/// How many submissions the queue has room for.
+/// The capacity of the queue.
 const QUEUE: usize = 2;
 
 /// What was done so far.
@@ -172,7 +172,7 @@ fn play_with<N: EngineName, R: Wait + Abort>(
     Ok(())
 }
 
-/// Pushes the next submission, and asserts that it is refused exactly if the queue is full.
+/// Pushes the next submission, and asserts that it is refused exactly when the queue is full.
 fn push<N: EngineName, R: Wait + Abort>(
     rt: &R,
     alloc: Global,
@@ -244,7 +244,7 @@ fn set<N: EngineName>(writer: &mut Writer<N>, counted: &mut Counted) -> Result<(
     Ok(())
 }
 
-/// Polls for each submission of a client, and asserts that the n-th of all that were pushed made the n-th entry, once it is answered.
+/// Polls for each submission of a client, and asserts that the nth of all that were pushed made the nth entry, once it is answered.
 fn get<N: EngineName, R: Abort>(
     rt: &R,
     clients: &mut Vec<Client<N>>,

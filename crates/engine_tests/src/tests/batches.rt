@@ -1,4 +1,4 @@
-//! How many items a step takes, and in which order they are answered.
+//! How many submissions a step takes, and in which order they are answered.
 
 use super::playing::{Token, Told, Turn, on_new};
 use super::*;

@@ -40,7 +40,7 @@ fn one_left<N: EngineName, R: Wait + Abort>(rt: &R, alloc: Global, parts: Parts)
     Ok(())
 }
 
-/// Who keeps a client or a reader is told that the engine is closed, and gets the answers that came before.
+/// The owner of a client or a reader that is kept is told that the engine is closed, and gets the answers that came before.
 #[test]
 fn a_closed_engine_refuses_what_is_left(rt: HostRuntime) -> Result<(), Fail> {
     let alloc = rt.alloc();
@@ -72,7 +72,7 @@ fn keep_two<N: EngineName, R: Wait + Abort>(rt: &R, alloc: Global, parts: Parts)
     Ok(())
 }
 
-/// Has a client submit twice, and the writer answer the first alone.
+/// Makes a client submit twice, and the writer answer only the first.
 fn answer_one<N: EngineName, R: Wait + Abort>(
     rt: &R,
     alloc: Global,
@@ -85,7 +85,7 @@ fn answer_one<N: EngineName, R: Wait + Abort>(
     Ok((answered, unanswered))
 }
 
-/// Asserts that an answer is still there, and that one which isn't there never comes.
+/// Asserts that an answer is still there, and that one that isn't there never comes.
 fn assert_answers<N: EngineName, A: Abort>(
     rt: &A,
     client: &mut Client<N>,
@@ -112,7 +112,7 @@ fn assert_closed<N: EngineName, R: Wait + Abort>(
     Ok(())
 }
 
-/// Asserts that one item is left, and that the entry of the other is in the history.
+/// Asserts that one submission is left, and that the entry of the other is in the history.
 fn assert_one_left<A: Abort>(rt: &A, last: &Final) {
     assert_eq!(rt; last.left, 1);
     assert_eq!(rt; last.history.len(), 1);

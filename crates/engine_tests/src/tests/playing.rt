@@ -1,4 +1,4 @@
-//! What is done with an engine in a test, as a table of turns, and what plays it.
+//! What a test does with an engine, as a table of turns, and what plays them.
 
 ghost use Rattle.std.specs.Prelude.{◌≡◌};
 ghost use Rattle.ids.specs.Members.{in_order};
@@ -40,7 +40,7 @@ pub enum Turn {
     Assign(usize, i64, Result<u64, Refusal>),
     /// A client assigns this many numbers, from 1 on, at the key `a`.
     AssignAll(usize, u32),
-    /// A client deletes at the head of a list, where no delete may stand.
+    /// A client deletes at the head of a list, where a delete isn't allowed.
     DeleteHead(usize, Result<u64, Refusal>),
     /// A client delivers the operation of replica 2 with this counter, which assigns its counter at the key `b` and
     /// depends on all its earlier ones.
@@ -51,11 +51,11 @@ pub enum Turn {
     Poll(usize, (usize, u64), Told),
     /// A client asks for the ticket of a serial: whether it has one.
     TicketOf(usize, u64, bool),
-    /// A token reads the number at a key, and has seen this many entries then.
+    /// A token reads the number at a key; how many entries it has then seen.
     Read(Token, &'static str, Option<i64>, usize),
-    /// A token reads the keys of the document, how many there are, and has seen this many entries then.
+    /// A token reads the keys of the document: how many there are, and how many entries it has then seen.
     Keys(Token, usize, usize),
-    /// A token learns the notice of this client's serial, and has seen this many entries then.
+    /// A token learns the notice of this client's serial; how many entries it has then seen.
     Learn(Token, (usize, u64), usize),
 }
 
@@ -249,7 +249,7 @@ fn poll<N: EngineName>(
     })
 }
 
-/// Whether the client has a ticket of the serial, which is that serial's then.
+/// Whether the client has a ticket of the serial; its serial is then that one.
 fn has_ticket<N: EngineName>(
     stage: &mut Stage<N>,
     client: usize,

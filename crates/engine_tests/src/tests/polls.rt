@@ -1,4 +1,4 @@
-//! What polls answer, and what tokens have seen then.
+//! What polls answer, and what tokens have then seen.
 
 use super::playing::{Token, Told, Turn, on_new};
 use super::*;

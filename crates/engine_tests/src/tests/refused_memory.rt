@@ -1,6 +1,6 @@
-//! A call whose allocation is refused changes nothing, and answers as ever when it is called again.
+//! A call whose allocation is refused changes nothing, and answers as usual when it is called again.
 //!
-//! To be run with each allocation refused in turn (`tests/refused_memory.sh`): what is refused is called once more, so each run passes.
+//! Run with each allocation refused in turn (`tests/refused_memory.sh`): a refused call is made once more, so each run passes.
 
 ghost use Rattle.std.specs.Prelude.{◌≡◌};
 ghost use Rattle.ids.specs.Members.{in_order};
@@ -119,7 +119,7 @@ fn write_four<N: EngineName, R: Wait + Abort>(
     write_again_what_was_refused(rt, alloc, writer, client)
 }
 
-/// Steps, once more if the first step is held, and asserts how many are answered.
+/// Steps, once more if the first step ends in `Held`, and asserts how many are answered.
 fn publish<N: EngineName, R: Wait + Abort>(
     rt: &R,
     alloc: Global,
@@ -154,7 +154,8 @@ fn answer<N: EngineName>(client: &mut Client<N>, serial: u64) -> Result<Option<R
     Ok(client.poll(&ticket)?)
 }
 
-/// Asserts that at most one of four commands was answered with `NoMemory`, and submits it again. The number 4 is written last in any case.
+/// Asserts that at most one of four commands was answered with `NoMemory`, and submits that one again. The number 4 is written last in any
+/// case.
 fn write_again_what_was_refused<N: EngineName, R: Wait + Abort>(
     rt: &R,
     alloc: Global,
@@ -177,8 +178,8 @@ fn write_again_what_was_refused<N: EngineName, R: Wait + Abort>(
     Ok(())
 }
 
-/// Delivers two operations of replica 2, the later one first, so that the drain after the second appends both. A drain that
-/// ends early goes on at the next step.
+/// Delivers two operations of replica 2, the later one first, so that the drain after the second appends both. If that drain ends early,
+/// the next step goes on with it.
 fn deliver_two<N: EngineName, R: Wait + Abort>(
     rt: &R,
     alloc: Global,
@@ -249,7 +250,7 @@ fn op_of_two(alloc: Global, counter: u64) -> Result<Shared<Op>, Refusal> {
     )
 }
 
-/// Whether the number 4 stands at the key `a`.
+/// Whether the key `a` has the number 4.
 fn has_four<N: EngineName>(alloc: Global, reader: &mut ReaderToken<N>) -> Result<bool, Refusal> {
     let question = Question::Values(again(|| at(alloc, "a"))?);
     let reading = match reader.ask(alloc, &question) {

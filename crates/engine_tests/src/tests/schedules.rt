@@ -13,15 +13,15 @@ use std::sync::Wait;
 use std::thread::{Threads, for_each_mut, join, yield_now};
 use value::{Scalar, Val};
 
-/// How many turns a thread may take, before it gives up.
+/// How many turns a thread may take before it gives up.
 const MOST_TURNS: u32 = 10_000_000;
 
-/// How many items the list has that is read, and how many publishes come after that.
+/// How many items the list has that is read, and how many publishes come after it is made.
 const ITEMS: usize = 500;
 
 const PUBLISHES: u32 = 1_000;
 
-/// How many entries there are at the end: one makes the list.
+/// How many entries there are at the end: one of them makes the list.
 const ENTRIES: usize = 1_501;
 
 /// How many clients write, and how many commands each of them submits.
@@ -35,18 +35,18 @@ const SUBMITTED: usize = 800;
 /// How a thread ended.
 #[derive(Clone, Copy, Debug, PartialEq, Eq)]
 enum Ended {
-    /// It did what it was to do.
+    /// It did its work.
     Done,
     /// It saw less than before.
     SawLess,
-    /// It was shown another list.
+    /// It was shown a different list.
     AnotherList,
-    /// A step of the writer answered another number of submissions.
+    /// A step of the writer answered a different number of submissions.
     AnotherStep,
     TooManyTurns,
 }
 
-/// An engine of replica 1 alone, with one reader, whose steps take one item.
+/// An engine of replica 1 alone, with one reader, whose steps take one submission.
 fn alone(alloc: Global, clients: u32) -> Result<Config, Refusal> {
     Ok(Config {
         own: 1,
@@ -225,7 +225,7 @@ fn assert_whole<R: Abort>(rt: &R, last: &Final) {
     }
 }
 
-/// All clients write at once; then a reader that never asked learns of the result.
+/// All clients write at the same time; then a reader that never asked learns of the result.
 fn write_and_learn<N: EngineName + Send + Sync, R: Threads + Wait + Abort + Sync>(
     rt: &R,
     alloc: Global,
@@ -255,7 +255,7 @@ fn write_at_once<N: EngineName + Send + Sync, R: Threads + Wait + Sync>(
                 clients,
                 CLIENTS,
                 &|_: usize, client: &mut Client<N>| {
-                    // A submission that fails is missed by the writer.
+                    // If a submission fails, the writer misses it.
                     let _refused = write_each(rt, alloc, client);
                 },
             )
@@ -308,7 +308,7 @@ fn submit_until_taken<N: EngineName, R: Wait>(
     Err(Refusal::QueueFull)
 }
 
-/// Asserts that a reader that never asked learns of all 800 entries, and then, of the first one alone, nothing less.
+/// Asserts that a reader that never asked learns of all 800 entries, and that learning of the first one alone then takes nothing away.
 fn learn_late<N: EngineName, R: Abort>(
     rt: &R,
     alloc: Global,
@@ -327,7 +327,7 @@ fn learn_late<N: EngineName, R: Abort>(
     Ok(())
 }
 
-/// The greatest counter that a reader is shown of one replica's operations 1, 2, 3 and so on: how many there are.
+/// The greatest counter that a reader is shown of one replica's operations 1, 2, 3 and so on, which is how many there are.
 fn greatest<N: EngineName>(alloc: Global, reader: &mut ReaderToken<N>) -> Result<u64, Refusal> {
     match reader.ask(alloc, &Question::Vector)? {
         Reading::Vector(vector) => Ok(vector.greatest()),

@@ -107,7 +107,7 @@ fn answer_all<N: EngineName, R: Wait>(rt: &R, alloc: Global, writer: &mut Writer
     }
 }
 
-/// Asks until all is published. False if a reading shows less than one before.
+/// Asks until all is published. Returns false if a reading shows less than one before.
 fn read_all<N: EngineName, R: Wait>(rt: &R, alloc: Global, reader: &mut ReaderToken<N>) -> bool {
     for _ in rt.forever() {
         let before = reader.seen_len();

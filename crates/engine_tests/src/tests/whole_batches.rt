@@ -12,7 +12,7 @@ use std::sync::Wait;
 use std::thread::{Threads, join};
 use value::{Scalar, Val};
 
-/// How many turns a thread may take, before it gives up.
+/// How many turns a thread may take before it gives up.
 const MOST_TURNS: u32 = 10_000_000;
 
 /// How many commands are submitted before the first step, and how many of them a step takes.
@@ -20,7 +20,7 @@ const SUBMITTED: u32 = 4_000;
 
 const BATCH: u32 = 4;
 
-/// How many steps take all of them.
+/// How many steps it takes for all of them.
 const STEPS: u32 = 1_000;
 
 /// What a reader saw.

@@ -1,4 +1,4 @@
-//! Lines of a journal that don't fit: what stood before them is there, and the engine goes on from that.
+//! Lines of a journal that don't fit: what is before them is brought back, and the engine resumes from that.
 
 use super::opening::{Life, live};
 use super::playing::Row;
@@ -18,7 +18,7 @@ const FIRST: Row = Journal(
 /// The next command of the engine.
 const NEXT: Row = Write(r#"["assign",["b"],2]"#, (2, 1));
 
-/// A line that is no JSON, one that is cut off, one that ends without its line feed, and a line of the second profile.
+/// A line that is no JSON, one that is cut off, one without its line feed, and a line of the second profile.
 #[test]
 fn a_bad_line_stops_it(rt: HostRuntime) -> Result<(), Fail> {
     const NO_JSON: &str = r#"["own",[1,1],["assign",["a"],1]]
@@ -63,7 +63,7 @@ fn another_id_stops_it(rt: HostRuntime) -> Result<(), Fail> {
     live(&rt, rt.alloc(), LIVES)
 }
 
-/// A command that is refused, an operation of the own number that comes as a peer's, and one that the rules forbid.
+/// A command that is refused, an operation of the own number that comes as a peer's, and one that breaks the rules.
 #[test]
 fn what_is_refused_stops_it(rt: HostRuntime) -> Result<(), Fail> {
     const PAST_END: &str = r#"["own",[1,1],["assign",["a"],1]]
@@ -89,7 +89,7 @@ fn what_is_refused_stops_it(rt: HostRuntime) -> Result<(), Fail> {
     live(&rt, rt.alloc(), LIVES)
 }
 
-/// An operation that depends on one that stands in no line before it.
+/// An operation that depends on one that no earlier line has.
 #[test]
 fn what_is_not_applied_stops_it(rt: HostRuntime) -> Result<(), Fail> {
     const EARLY: &str = r#"["own",[1,1],["assign",["a"],1]]

@@ -1,10 +1,10 @@
-//! An engine that goes on from its journal.
+//! An engine that resumes from its journal.
 
 use super::opening::{Life, live};
 use super::playing::Row::{Answer, Journal, Receive, Replay, Write};
 use super::*;
 
-/// Two own commands, an operation of a peer that writes behind them, and an own command about that.
+/// Two own commands, an operation of a peer that inserts after them, and an own command that depends on it.
 const FOUR: &str = r#"["own",[1,1],["assign",["l"],[]]]
 ["own",[2,1],["insert",["l",0],"x"]]
 ["op",[3,2],[[1,2]],[["m",0],["l","l"]],[2,1],["i","y"]]
@@ -60,7 +60,7 @@ fn a_history_comes_back(rt: HostRuntime) -> Result<(), Fail> {
     live(&rt, rt.alloc(), &[FIRST, SECOND])
 }
 
-/// A journal may come in pieces, with what was written in a life before.
+/// A journal may come in pieces, with what was written in an earlier life.
 #[test]
 fn a_journal_comes_in_pieces(rt: HostRuntime) -> Result<(), Fail> {
     const THIRD: Life = (
@@ -82,7 +82,7 @@ fn a_journal_comes_in_pieces(rt: HostRuntime) -> Result<(), Fail> {
     live(&rt, rt.alloc(), &[THIRD])
 }
 
-/// More lives than there are numbers in a table: a number isn't used up by a start.
+/// More lives than there are numbers in a table: a start doesn't use up a number.
 #[test]
 fn a_number_lives_more_often_than_there_are_numbers(rt: HostRuntime) -> Result<(), Fail> {
     const ONE: &str = r#"["own",[1,1],["assign",["a"],1]]

@@ -1,11 +1,11 @@
-//! What happens where more was handed out than the journal has: two operations have one id.
+//! What happens if more was handed out than the journal has: two operations have one id.
 
 use super::opening::{Life, live};
 use super::playing::Row::{Answer, Journal, Receive, Replay, Write};
 use super::*;
 
-/// Engine 1 writes and sends that; its journal is lost, and it writes anew. From then on both engines have the same vector, and so neither
-/// sends anything, but they show different values: nothing mends that.
+/// Engine 1 writes and sends that; its journal is lost, and it writes again. From then on both engines have the same vector, and so neither
+/// sends anything, but they show different values: nothing repairs that.
 #[test]
 fn what_was_sent_and_lost_stands_twice(rt: HostRuntime) -> Result<(), Fail> {
     const SENT: &str = r#"["op2",[1,1],[],[["m",0]],"a",["a",1]]

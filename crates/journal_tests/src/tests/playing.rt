@@ -1,4 +1,4 @@
-//! What is done with an engine in a life, as a table of turns, and what plays it.
+//! What a test does with an engine in a life, as a table of turns, and what plays them.
 
 use super::*;
 use engine::{Client, EngineName, ReaderToken, Reply, Step, Writer};
@@ -21,17 +21,17 @@ pub enum Why {
     NotAlone,
 }
 
-/// How a journal was brought back: how many lines and bytes, and the stop.
+/// How far a journal was replayed: how many lines and bytes, and the stop.
 pub type Taken = (u64, usize, Option<(u64, Why)>);
 
 /// One turn: something that is done with the engine, and its answer.
 #[derive(Clone, Copy)]
 pub enum Row {
-    /// This journal is brought back, in pieces that are brought back one after the other.
+    /// This journal is replayed, in pieces one after the other.
     Replay(&'static [(&'static str, Taken)]),
     /// This journal, whose first line has 33 bytes, stops at its second line.
     Stops(&'static str, Why),
-    /// Its client writes what this command says, and its writer steps: this id was made.
+    /// Its client writes this command, and its writer steps: this id was made.
     Write(&'static str, Pair),
     /// Its client receives this many operations of these lines, and its writer steps.
     Receive(&'static str, u64),
@@ -43,9 +43,9 @@ pub enum Row {
     Unstored(&'static str, usize),
     /// The entries before this position are called stored.
     Stored(usize),
-    /// The hello of what goes out.
+    /// The hello of the `Outgoing`.
     Hello(&'static str),
-    /// What is stored answers this hello, and says whether that names more of the own number than is known.
+    /// The answer to this hello from what is stored, and whether the hello names more of the own number than is known.
     Send(&'static str, &'static str, bool),
 }
 
@@ -97,7 +97,7 @@ fn play_row<N: EngineName, R: Wait + Abort>(
     Ok(())
 }
 
-/// Plays a row of what goes out.
+/// Plays a row of the `Outgoing`.
 fn send<N: EngineName, R: Abort>(
     rt: &R,
     alloc: Global,
@@ -130,7 +130,7 @@ fn assert_written(rt: &impl Abort, written: &Written, lines: &str, upto: usize) 
     assert_eq!(rt; written.upto, upto);
 }
 
-/// Brings these pieces back, one after the other.
+/// Replays these pieces, one after the other.
 fn replay<N: EngineName, R: Wait + Abort>(
     rt: &R,
     alloc: Global,
@@ -181,7 +181,7 @@ fn write<N: EngineName, R: Wait + Abort>(
     Ok(())
 }
 
-/// Receives these lines, and handles as many as that.
+/// Receives these lines, and handles that many.
 fn take<N: EngineName, R: Wait + Abort>(
     rt: &R,
     alloc: Global,

@@ -1,16 +1,16 @@
-//! What goes out is what was called stored.
+//! Only what was called stored is sent.
 
 use super::opening::{Life, live};
 use super::playing::Row::{Hello, Receive, Send, Stored, Unstored, Write};
 use super::*;
 
-/// What three commands write.
+/// The lines that three commands write.
 const THREE: &str = r#"["own",[1,1],["assign",["a"],1]]
 ["own",[2,1],["assign",["b"],2]]
 ["own",[3,1],["assign",["c"],3]]
 "#;
 
-/// What is left of them behind the first two.
+/// The rest of them after the first two.
 const THIRD: &str = r#"["own",[3,1],["assign",["c"],3]]
 "#;
 
@@ -19,12 +19,12 @@ const TWO_SENT: &str = r#"["op2",[1,1],[],[["m",0]],"a",["a",1]]
 ["op2",[2,1],[[1,1]],[["m",0]],"b",["a",2]]
 "#;
 
-/// The third one, as it is sent to who has the first.
+/// The third one, as it is sent to a peer that has the first.
 const LAST_SENT: &str = r#"["op2",[2,1],[[1,1]],[["m",0]],"b",["a",2]]
 ["op2",[3,1],[[1,2]],[["m",0]],"c",["a",3]]
 "#;
 
-/// Nothing goes out before it is stored; what is stored stays so, and what wasn't seen isn't stored. A hello says all that is published.
+/// Nothing is sent before it is stored; what is stored stays so, and what wasn't seen isn't stored. A hello names all that is published.
 #[test]
 fn nothing_goes_out_before_it_is_stored(rt: HostRuntime) -> Result<(), Fail> {
     const LIFE: Life = (
@@ -52,8 +52,8 @@ fn nothing_goes_out_before_it_is_stored(rt: HostRuntime) -> Result<(), Fail> {
     live(&rt, rt.alloc(), &[LIFE])
 }
 
-/// A hello that names more of the own number than is known here tells that this engine forgot what it had sent. That it names more of
-/// another one doesn't.
+/// A hello that names more of this engine's own number than is known here shows that the engine forgot what it had sent. One that names
+/// more of another number doesn't.
 #[test]
 fn a_hello_tells_what_was_forgotten(rt: HostRuntime) -> Result<(), Fail> {
     const LIFE: Life = (

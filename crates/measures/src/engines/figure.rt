@@ -8,12 +8,12 @@ use std::time::{Clock, Instant};
 #[derive(Clone, Copy, Debug)]
 pub struct Figure {
     pub name: &'static str,
-    /// How many operations were made, seen or received, or what else is counted.
+    /// How many operations were made, seen or received, or whatever else is counted.
     pub count: usize,
     pub counted: &'static str,
-    /// What is done again and again.
+    /// What is done repeatedly.
     pub what: &'static str,
-    /// How often.
+    /// How many times.
     pub done: u64,
     /// How long it took.
     pub nanos: u64,
@@ -56,7 +56,7 @@ impl Figure {
     }
 }
 
-/// When something began; `None` if the clock can't be read.
+/// When something started; `None` if the clock can't be read.
 pub fn begin<R: Clock>(rt: &R) -> Option<Instant> {
     Instant::now(rt).ok()
 }

@@ -1,5 +1,5 @@
-//! A list at a glance beside a question for each of its items, and a history that is brought back from a journal beside one that comes in
-//! as a bundle.
+//! A list at a glance compared with a question for each of its items, and a history that is replayed from a journal compared with one that
+//! arrives as a bundle.
 
 ghost use Rattle.std.specs.Prelude.{◌≡◌};
 ghost use Rattle.ids.specs.Members.{in_order};
@@ -28,7 +28,7 @@ fn list(alloc: Global) -> Result<Expr, Refusal> {
     Expr::root(alloc).get(alloc, "l")
 }
 
-/// Writes a list of so many numbers, each at its head, a step for each.
+/// Writes a list of this many numbers, each inserted at the head, with a step for each.
 pub fn write_list<N: EngineName, R: Wait>(
     rt: &R,
     alloc: Global,
@@ -46,7 +46,7 @@ pub fn write_list<N: EngineName, R: Wait>(
     Ok(())
 }
 
-/// The first items of the list, at a glance.
+/// The first items of the list, as one glance.
 pub fn glance<N: EngineName, R: Clock>(
     rt: &R,
     alloc: Global,
@@ -65,7 +65,7 @@ pub fn glance<N: EngineName, R: Clock>(
     })
 }
 
-/// The same items, a question for each.
+/// The same items, with a question for each.
 pub fn questions<N: EngineName, R: Clock>(
     rt: &R,
     alloc: Global,
@@ -97,7 +97,7 @@ fn items<N: EngineName>(alloc: Global, reader: &mut ReaderToken<N>) -> Result<Ve
     }
 }
 
-/// What a new engine is brought to its history by.
+/// What gives a new engine its history.
 #[derive(Clone, Copy)]
 pub enum Feed<'a> {
     /// The lines of its own journal.
@@ -106,7 +106,7 @@ pub enum Feed<'a> {
     Bundle(&'a [u8]),
 }
 
-/// Opens an engine of this number, and brings it to a history.
+/// Opens an engine of this number, and gives it a history.
 pub fn bring<R: Wait + Clock>(
     rt: &R,
     alloc: Global,
@@ -164,7 +164,7 @@ fn time<N: EngineName, R: Wait + Clock>(
     })
 }
 
-/// Brings a journal back. Returns how many entries it has.
+/// Replays a journal. Returns how many entries it has.
 fn replay<N: EngineName, R: Wait>(
     rt: &R,
     alloc: Global,

@@ -129,7 +129,7 @@ fn play_all<A: EngineName + Send + Sync, B: EngineName, R: Threads + Wait + Cloc
     })
 }
 
-/// Brings an engine of the same number to this one's history, by its journal.
+/// Gives an engine of the same number this one's history, by its journal.
 fn bring_journal<N: EngineName, R: Wait + Clock>(
     rt: &R,
     alloc: Global,
@@ -139,7 +139,7 @@ fn bring_journal<N: EngineName, R: Wait + Clock>(
     bring(rt, alloc, 1, Feed::Journal(lines.as_slice()))
 }
 
-/// Brings an engine of another number to this one's history, by a bundle.
+/// Gives an engine of another number this one's history, by a bundle.
 fn bring_bundle<N: EngineName, R: Wait + Clock>(
     rt: &R,
     alloc: Global,
@@ -167,7 +167,7 @@ fn submit_to_poll<N: EngineName, R: Wait + Clock>(
     })
 }
 
-/// A reader asks without a pause, while a client and the writer go on in another thread.
+/// A reader asks without pause, while a client and the writer work in another thread.
 fn read_meanwhile<N: EngineName + Send + Sync, R: Threads + Wait + Clock + Sync>(
     rt: &R,
     alloc: Global,

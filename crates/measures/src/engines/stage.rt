@@ -1,4 +1,4 @@
-//! An engine's ends, and what is done with them.
+//! An engine's ends, and what can be done with them.
 
 use cursor::Expr;
 use document::{Question, Reading};
@@ -19,7 +19,7 @@ pub struct Stage<'a, N: EngineName> {
     pub reader: &'a mut ReaderToken<N>,
 }
 
-/// How often a reader may ask without seeing all, before it gives up.
+/// The most reads of a reader that doesn't see all, before it gives up.
 const MOST_READS: u64 = 1_000_000_000;
 
 /// Submits numbers one after another, steps after each, and polls its answer. Returns how many were made.
@@ -39,7 +39,7 @@ pub fn write_all<N: EngineName, R: Wait>(
     Ok(made)
 }
 
-/// Whether the client's assignment of the number is made.
+/// Whether the client's assignment of the number was made.
 fn is_made<N: EngineName, R: Wait>(
     rt: &R,
     alloc: Global,
@@ -110,7 +110,7 @@ impl<N: EngineName> Stage<'_, N> {
         answer(alloc, self.reader, b"[\"hello\",[]]")
     }
 
-    /// Receives a bundle and handles all of it. Returns how many operations are seen then.
+    /// Receives a bundle and handles all of it. Returns how many operations are then seen.
     pub fn take<R: Wait>(
         &mut self,
         rt: &R,

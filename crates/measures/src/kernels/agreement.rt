@@ -1,4 +1,4 @@
-//! Whether each kernel and its plain loop answer and write the same. It is proved that they do: a run tests what a compiler made of both.
+//! Whether each kernel and its plain loop answer and write the same. This is proved: a run tests what a compiler made of both.
 
 ghost use Rattle.std.specs.Prelude.{◌≡◌, length, IfOk, IsTrue, IsNone};
 ghost use Rattle.std.specs.Int.{div_ceil};
@@ -11,7 +11,7 @@ use std::io;
 /// None, less than a block, a block, and more; a word of a mask, and many.
 const WIDTHS: [usize; 8] = [0, 1, 7, 8, 9, 64, 256, 4096];
 
-/// Prints for each kernel whether it agrees with its twin.
+/// Prints for each kernel whether it agrees with its plain loop.
 pub fn compare(rt: &impl Print, alloc: Global) -> io::Result<()> {
     for kernel in Kernel::ALL {
         let name = kernel.name();
@@ -23,7 +23,7 @@ pub fn compare(rt: &impl Print, alloc: Global) -> io::Result<()> {
     Ok(())
 }
 
-/// The first of the widths at which a kernel and its twin differ.
+/// The first of the widths at which a kernel and its plain loop differ.
 fn first_difference(alloc: Global, kernel: Kernel) -> Result<Option<usize>, AllocError>
     ensures { IfOk result IsNone }
 {
@@ -56,7 +56,7 @@ fn is_same(alloc: Global, kernel: Kernel, width: usize, seed: u64) -> Result<boo
     ))
 }
 
-/// Runs a kernel in lanes on one column and one mask, and its twin on others. Whether both answer and write the same.
+/// Runs a kernel in lanes on one column and one mask, and its plain loop on others. Returns whether both answer and write the same.
 fn leave_the_same(
     kernel: Kernel,
     second: &[u64],

@@ -1,4 +1,4 @@
-//! How long a call of each kernel takes, and how long its plain loop.
+//! How long a call of each kernel takes, and how long its plain loop takes.
 
 ghost use Rattle.std.specs.Prelude.{◌≡◌, ◌+◌, ◌^◌, ◌<◌, length};
 ghost use Rattle.std.specs.Int.{div_ceil};
@@ -15,7 +15,7 @@ const WIDTHS: [usize; 5] = [1, 8, 64, 256, 4096];
 /// How many rounds are timed; the best one counts.
 const ROUNDS: usize = 7;
 
-/// How far apart the two starts are: a line of the processor's cache.
+/// The distance between the two starts: a line of the processor's cache.
 const STEP: usize = 8;
 
 /// The time of one call in tenths of a nanosecond, with the sum of all answers.
@@ -54,7 +54,7 @@ pub fn report<R: Print + Clock>(rt: &R, alloc: Global) -> io::Result<()> {
     Ok(())
 }
 
-/// The time on generated columns. For tests of equality both are equal, so that each counter is compared.
+/// The time on generated columns. For tests of equality both columns are equal, so that each counter is compared.
 fn time_of<R: Clock>(
     rt: &R,
     alloc: Global,

@@ -1,4 +1,4 @@
-//! Whether what was written is read as the same. It is proved that it is: a run tests what a compiler made of it.
+//! Whether what was written is read back the same. This is proved: a run tests what a compiler made of it.
 
 ghost use Rattle.std.specs.Prelude.{◌≡◌, List, [], map, Ok, IfOk, IsTrue};
 ghost use Rattle.std.specs.List.{All};
@@ -16,7 +16,7 @@ use std::alloc::{AllocError, Global};
 use std::io;
 use wire::{read_bundle, read_op, write_bundle, write_op};
 
-/// Prints for each sample whether what is written of it in each profile is read back.
+/// Prints for each sample whether what is written in each profile is read back the same.
 pub fn compare(rt: &impl Print, alloc: Global, samples: &[Sample]) -> io::Result<()> {
     for sample in samples {
         let name = sample.name;
@@ -30,7 +30,7 @@ pub fn compare(rt: &impl Print, alloc: Global, samples: &[Sample]) -> io::Result
     Ok(())
 }
 
-/// Whether the operations are read back, of a bundle in profile 2 and of a line each in profile 1.
+/// Whether the operations are read back from a bundle in profile 2, and from one line each in profile 1.
 ///
 /// # Errors
 /// `AllocError` if allocation fails.
@@ -77,7 +77,7 @@ fn are_lines_read_back(alloc: Global, ops: &[Shared<Op>]) -> Result<bool, AllocE
     Ok(true)
 }
 
-/// The same of one operation.
+/// The same for one operation.
 fn is_line_read_back(alloc: Global, op: &Op) -> Result<bool, AllocError>
     ensures sent { CanBeSent (stamped_of op.now) → IfOk result IsTrue }
     ensures same { IfOk result

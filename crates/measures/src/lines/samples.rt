@@ -23,7 +23,7 @@ const SHOPPING: [&str; 5] = [
     r#"["op",[5,1],[[1,4]],[["m",0],["l","shopping"]],[3,1],["i","milk"]]"#,
 ];
 
-/// How many operations one of many replicas makes.
+/// How many operations the replica makes in a sample of many replicas.
 const INSERTS: u32 = 50;
 
 /// How many operations of each replica came before them.
@@ -59,7 +59,7 @@ fn shopping_list(alloc: Global) -> Result<Sample, Refusal>
     })
 }
 
-/// Operations of one of so many replicas, whose vectors name all that came before.
+/// Operations of one of `replicas` replicas, whose vectors name all that came before.
 fn inserts_after_all(alloc: Global, name: &'static str, replicas: u32) -> Result<Sample, Refusal>
     ensures { IfOk result (λ s. length s.ops.items ≡ 50) }
 {
@@ -80,7 +80,7 @@ fn other_pairs(alloc: Global, replicas: u32) -> Result<String, Refusal> {
     Ok(pairs)
 }
 
-/// The insert of replica 1 after its operation with this counter and those of the others.
+/// The insert of replica 1, after its operation with this counter and the operations of the others.
 fn insert_after(alloc: Global, counter: u32, others: &str) -> Result<Shared<Op>, Refusal>
     requires { counter < 2000 }
 {

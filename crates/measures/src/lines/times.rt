@@ -1,4 +1,4 @@
-//! How many operations are written and read a second, in both profiles.
+//! How many operations are written and read per second, in both profiles.
 
 ghost use Rattle.std.specs.Prelude.{◌≡◌, ◌*◌, ◌/◌, ◌-◌, ◌^◌, max, min};
 
@@ -10,15 +10,15 @@ use std::io;
 use std::time::{Clock, Instant};
 use wire::{BundleReader, BundleWriter, read_op, write_op};
 
-/// How often the operations of a sample are written and read.
+/// How many times the operations of a sample are written and read.
 const TURNS: u32 = 2_000;
 
-/// How a line tells its operation's vector.
+/// How a line has its operation's vector.
 #[derive(Clone, Copy, Debug)]
 enum Profile {
     /// Whole, in profile 1.
     Whole,
-    /// By its differences from the vector of the line before, in profile 2.
+    /// As its differences from the vector of the line before, in profile 2.
     Differences,
 }
 
@@ -34,7 +34,7 @@ impl Profile {
     }
 }
 
-/// Prints for each sample how many operations are written and read a second in each profile.
+/// Prints for each sample how many operations are written and read per second in each profile.
 pub fn report<R: Print + Clock>(rt: &R, alloc: Global, samples: &[Sample]) -> io::Result<()> {
     for sample in samples {
         for profile in Profile::ALL {
@@ -44,7 +44,7 @@ pub fn report<R: Print + Clock>(rt: &R, alloc: Global, samples: &[Sample]) -> io
     Ok(())
 }
 
-/// Prints how many operations of the sample are written and read a second in this profile.
+/// Prints how many operations of the sample are written and read per second in this profile.
 fn report_in<R: Print + Clock>(
     rt: &R,
     alloc: Global,
@@ -122,7 +122,7 @@ fn lines_of(alloc: Global, sample: &Sample, profile: Profile) -> Result<Vec<Vec<
     Ok(lines)
 }
 
-/// Writes the operations again and again, each time as a bundle of their own, and returns how many bytes they were in all.
+/// Writes the operations repeatedly, each time as a bundle of their own, and returns how many bytes that was in all.
 fn write_often(alloc: Global, sample: &Sample, profile: Profile) -> Result<u64, AllocError> {
     let mut bytes = 0_u64;
     for _ in 0..TURNS {
@@ -135,7 +135,7 @@ fn write_often(alloc: Global, sample: &Sample, profile: Profile) -> Result<u64, 
     Ok(bytes)
 }
 
-/// Reads the lines again and again, each time as a bundle of their own, and returns how many operations they were in all.
+/// Reads the lines repeatedly, each time as a bundle of their own, and returns how many operations that was in all.
 fn read_often(alloc: Global, lines: &[Vec<u8>], profile: Profile) -> Result<u64, Refusal> {
     let mut count = 0_u64;
     for _ in 0..TURNS {

@@ -13,7 +13,7 @@ use std::alloc::Global;
 use std::process::Abort;
 use std::sync::Wait;
 
-/// What notebook 1 writes at the key `k`, and what notebook 2 writes there apart.
+/// What notebook 1 writes at the key `k`, and what notebook 2 writes there concurrently.
 const TEA: Row = Does(Write(r#"["assign",["k"],"tea"]"#), Saved);
 
 const MILK: Row = Does(Write(r#"["assign",["k"],"milk"]"#), Saved);
@@ -28,7 +28,8 @@ const MILK_SENT: &str = r#"["op2",[1,2],[],[["m",0]],"k",["a","milk"]]
 /// A life of a notebook: its number, and what is done until it ends.
 type Life = (u32, &'static [Row]);
 
-/// Two notebooks write apart, are ended and opened, and exchange what they wrote; they are ended and opened again, and show the same.
+/// Two notebooks write concurrently, are ended and opened, and exchange what they wrote; they are ended and opened again, and show the
+/// same.
 #[test]
 fn notebooks_agree(rt: HostRuntime) -> Result<(), Fail> {
     const ONE: Receipt = Receipt {
@@ -52,8 +53,8 @@ fn notebooks_agree(rt: HostRuntime) -> Result<(), Fail> {
     live_in_turn(&rt, rt.alloc(), LIVES)
 }
 
-/// An append fails: what it was to store is shown, and isn't sent before it is stored. The calls of the disk are a read and a sync by the
-/// opening, and then an append and a sync by each write.
+/// An append fails: what it should have stored is shown, but isn't sent before it is stored. The calls of the disk are a read and a sync
+/// when it is opened, and then an append and a sync for each write.
 #[test]
 fn what_isnt_stored_isnt_sent(rt: HostRuntime) -> Result<(), Fail> {
     const ROWS: &[Row] = &[
@@ -74,7 +75,7 @@ fn what_isnt_stored_isnt_sent(rt: HostRuntime) -> Result<(), Fail> {
     plays(&rt, rt.alloc(), Breaks::At(5), ROWS, BOTH)
 }
 
-/// A sync fails: nothing more is stored or sent, whatever the disk says after it.
+/// A sync fails: nothing more is stored or sent, whatever the disk returns after it.
 #[test]
 fn after_a_failed_sync_nothing_is_stored(rt: HostRuntime) -> Result<(), Fail> {
     const ROWS: &[Row] = &[
@@ -92,7 +93,7 @@ fn after_a_failed_sync_nothing_is_stored(rt: HostRuntime) -> Result<(), Fail> {
     plays(&rt, rt.alloc(), Breaks::At(6), ROWS, BOTH)
 }
 
-/// What is refused isn't stored: a command, an operation behind a counter that is missing, and a line that is cut off.
+/// What is refused isn't stored: a command, an operation after a missing counter, and a line that is cut off.
 #[test]
 fn what_is_refused_isnt_stored(rt: HostRuntime) -> Result<(), Fail> {
     const SKIPS: &str = r#"["op2",[1,2],[],[["m",0]],"k",["a","milk"]]
@@ -114,7 +115,7 @@ fn what_is_refused_isnt_stored(rt: HostRuntime) -> Result<(), Fail> {
     plays(&rt, rt.alloc(), Breaks::Never, ROWS, MILK_ALONE)
 }
 
-/// Plays these rows with notebook 1 on an empty disk that breaks so, which has these bytes then.
+/// Plays these rows with notebook 1 on an empty disk that fails like this, and has these bytes at the end.
 fn plays<R: Wait + Abort>(
     rt: &R,
     alloc: Global,

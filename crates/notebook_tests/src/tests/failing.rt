@@ -24,14 +24,15 @@ const LIFE: &[Row] = &[
     Tries(Save),
 ];
 
-/// What stands on the disk when the life begins: a line that was being written.
+/// What is on the disk when the life begins: a line that was being written.
 const TORN: &str = r#"["own",[1,1],["assi"#;
 
 /// More calls than the life makes of its disk.
 const CALLS: u64 = 18;
 
-/// Each call of the disk fails in turn, alone or with all after it. Then the power goes: of what wasn't synced nothing stays, or all, or
-/// the first bytes. What was called saved is there all the same, and nothing that wasn't accepted, and the next life goes on from it.
+/// Each call of the disk fails in turn, alone or with all after it. Then the power goes: of what wasn't synced, nothing is left, or
+/// everything, or the first bytes. Whatever was called saved is there all the same, and nothing that wasn't accepted, and the next life
+/// resumes from it.
 #[test]
 fn what_is_saved_survives(rt: HostRuntime) -> Result<(), Fail> {
     for call in 1..=CALLS {

@@ -1,4 +1,4 @@
-//! Notebooks that go on from what a disk has.
+//! Notebooks that resume from what a disk has.
 
 use super::opening::live;
 use super::playing::Act::Write;
@@ -14,7 +14,7 @@ use std::sync::Wait;
 /// How many bytes the first lines of `FOUR` have.
 const ENDS: [usize; 5] = [0, 34, 71, 128, 161];
 
-/// What the next life writes behind each of them.
+/// What the next life writes after each of them.
 const NEXT: [&str; 5] = [
     r#"["own",[1,1],["assign",["k"],"on"]]
 "#,
@@ -28,8 +28,8 @@ const NEXT: [&str; 5] = [
 "#,
 ];
 
-/// Lets the next life of notebook 1 write, on a disk that has some of the first lines of `FOUR`: at least and at most these many. All of
-/// these are there, and nothing else, and the command comes behind them.
+/// Makes the next life of notebook 1 write, on a disk that has some of the first lines of `FOUR`: at least and at most this many. All of
+/// these are there, and nothing else, and the command comes after them.
 pub fn goes_on<R: Wait + Abort>(
     rt: &R,
     alloc: Global,
@@ -67,7 +67,7 @@ fn a_cut_file_goes_on(rt: HostRuntime) -> Result<(), Fail> {
     Ok(())
 }
 
-/// More lives than there are numbers in a table: a number isn't used up by a start.
+/// More lives than there are numbers in a table: a start doesn't use up a number.
 #[test]
 fn a_number_lives_more_often_than_there_are_numbers(rt: HostRuntime) -> Result<(), Fail> {
     const ROWS: &[Row] = &[Does(Write(r#"["insert",["l",0],"x"]"#), Saved)];

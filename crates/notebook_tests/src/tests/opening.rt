@@ -13,7 +13,7 @@ use std::marker::Brand;
 use std::process::Abort;
 use std::sync::Wait;
 
-/// Opens a notebook of this number on the disk, plays these rows, and ends it. Returns the disk, and what was told by then, or why it
+/// Opens a notebook of this number on the disk, plays these rows, and ends it. Returns the disk, and what the rows were told, or why it
 /// didn't open.
 pub fn live<R: Wait + Abort>(
     rt: &R,

@@ -1,4 +1,4 @@
-//! What is done with a notebook in a life, as a table of rows, and what plays it.
+//! What a test does with a notebook in a life, as a table of rows, and what plays them.
 
 use super::*;
 use disks::Disk;
@@ -20,12 +20,12 @@ pub enum Act {
     Save,
 }
 
-/// What came of an act.
+/// The outcome of an act.
 #[derive(Clone, Copy, Debug, PartialEq, Eq)]
 pub enum Came {
     /// It is saved.
     Saved,
-    /// It is in the document, and not saved.
+    /// It is in the document, but not saved.
     Store,
     /// A sync or a cut failed, now or before.
     MustStartAgain,
@@ -38,16 +38,16 @@ pub enum Came {
 /// Something that is done with a notebook, and its answer.
 #[derive(Clone, Copy)]
 pub enum Row {
-    /// Whatever comes of it.
+    /// This act, whatever its outcome.
     Tries(Act),
-    /// This comes of it.
+    /// This act, with this outcome.
     Does(Act, Came),
     /// This bundle is received, and this is its receipt.
     Receives(&'static str, Receipt),
     Hello(&'static str),
     /// The answer to this hello, and whether the hello is beyond.
     Answer(&'static str, &'static str, bool),
-    /// The texts that stand at the key `k`.
+    /// The texts at the key `k`.
     Shows(&'static [&'static str]),
 }
 
@@ -114,7 +114,7 @@ fn play_row<N: EngineName, R: Wait + Abort>(
     Ok(())
 }
 
-/// Does this, and says what came of it.
+/// Does this, and returns the outcome.
 fn try_act<N: EngineName>(
     rt: &impl Wait,
     alloc: Global,
@@ -143,7 +143,7 @@ fn came_of(fault: Option<Fault>) -> Came {
 }
 
 impl Told {
-    /// Counts what came of an act: while nothing is lost, each is in the document, and once one is saved all are.
+    /// Counts the outcome of an act: while nothing is lost, each act is in the document, and once one is saved all are.
     fn count(&mut self, act: Act, came: Came) {
         if !self.is_lost && !matches!(act, Act::Save) {
             self.accepted = self.accepted.saturating_add(1);
@@ -156,7 +156,7 @@ impl Told {
     }
 }
 
-/// Asserts that these texts stand at the key `k`.
+/// Asserts that these texts are at the key `k`.
 fn show<N: EngineName, R: Wait + Abort>(
     rt: &R,
     alloc: Global,

@@ -137,7 +137,7 @@ fn place_at(alloc: Global, at: At) -> Result<Place, Fail> {
     }
 }
 
-/// Whether two places are equal, the first one as a copy.
+/// Whether two places are equal, with the first one copied.
 fn are_equal(alloc: Global, at: At, other: At) -> Result<bool, Fail> {
     let place = place_at(alloc, at)?;
     let other = place_at(alloc, other)?;

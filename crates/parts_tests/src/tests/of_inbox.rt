@@ -1,4 +1,4 @@
-//! The tests of `inbox`: what waits, in which order it comes out, and how much may wait. Each test is a table of turns that `play` plays.
+//! The tests of `inbox`: what waits, in which order it leaves, and how much may wait. Each test is a table of turns that `play` plays.
 
 mod order;
 mod playing;

@@ -13,7 +13,7 @@ const WIDTHS: [usize; 9] = [0, 1, 7, 8, 9, 63, 64, 65, 256];
 /// and how many of its counters are above those of the second.
 type Said = (bool, bool, u64, usize);
 
-/// The next state of a generator of numbers.
+/// The next state of a random number generator.
 fn next(state: u64) -> u64 {
     state
         .wrapping_mul(6_364_136_223_846_793_005)
@@ -38,7 +38,7 @@ fn numbers(alloc: Global, width: usize, seed: u64) -> Result<Vec<u64>, Fail> {
     Ok(numbers)
 }
 
-/// This many zeros, but 1 at the end.
+/// This many zeros, except for a 1 at the end.
 fn one_at_end(alloc: Global, width: usize) -> Result<Vec<u64>, Fail> {
     let mut numbers = Vec::new(alloc);
     for index in 1..=width {
@@ -176,7 +176,7 @@ fn assert_rest(rt: &impl Abort, counters: &[u64], mask: &[u64]) {
     }
 }
 
-/// Asserts a mask that is written over words whose bits were all 1.
+/// Asserts a mask that overwrites words whose bits were all 1.
 fn assert_mask(rt: &impl Abort, alloc: Global, a: &[u64], b: &[u64]) -> Result<(), Fail>
     requires { length a.now ≡ length b.now }
 {
@@ -188,7 +188,7 @@ fn assert_mask(rt: &impl Abort, alloc: Global, a: &[u64], b: &[u64]) -> Result<(
     Ok(())
 }
 
-/// The greater of each two counters.
+/// The greater of each pair of counters.
 fn greater(alloc: Global, a: &[u64], b: &[u64]) -> Result<Vec<u64>, Fail> {
     let mut greater = Vec::new(alloc);
     for (x, y) in a.iter().zip(b) {

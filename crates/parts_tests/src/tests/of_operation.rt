@@ -1,4 +1,4 @@
-//! The tests of `operation`: commands, operations and entries, and the faults of an operation alone.
+//! The tests of `operation`: commands, operations and entries, and the faults that an operation has by itself.
 
 use At::{Field, HeadOfField, ItemOfField, Root};
 use Does::{Assign, Delete, Insert};
@@ -11,7 +11,7 @@ use std::process::Abort;
 use std::test::Fail;
 use value::{Key, Scalar, Text, Val};
 
-/// Where an operation of a test stands. A field is the root's with the key `a`; an item has this counter and replica.
+/// The place of an operation of a test. A field is the root's with the key `a`; an item has this counter and replica.
 #[derive(Clone, Copy)]
 enum At {
     Root,
@@ -20,7 +20,7 @@ enum At {
     ItemOfField(u64, u32),
 }
 
-/// What an operation of a test does there: it assigns a map, inserts null, or deletes.
+/// What an operation of a test does at its place: it assigns a map, inserts null, or deletes.
 #[derive(Clone, Copy)]
 enum Does {
     Assign,
@@ -100,7 +100,7 @@ const COUNTERS: &[Row] = &[
     ),
 ];
 
-/// Any replica may send, and be named by a vector or a place: no table is asked.
+/// Any replica may send, and be named by a vector or a place: no table is consulted.
 const ANY_REPLICA: &[Row] = &[
     ((1, 4), &[0, 0, 0], Field, Delete, Ok(())),
     ((1, 4_294_967_295), &[0, 0, 0], Field, Delete, Ok(())),
@@ -122,7 +122,7 @@ const ANY_REPLICA: &[Row] = &[
     ((9, 4), &[7, 0, 0], Field, Insert, Err(Refusal::BadCounter)),
 ];
 
-/// Operations at places where they may not stand.
+/// Operations at places that their mutation isn't allowed at.
 const PLACES: &[Row] = &[
     ((9, 2), &[7, 0, 0], Field, Insert, Err(Refusal::BadCounter)),
     ((1, 2), &[0, 0, 0], Field, Insert, Err(Refusal::NotInList)),
@@ -219,7 +219,7 @@ fn milk(alloc: Global) -> Result<Val, Refusal> {
     Ok(Val::Scalar(Scalar::Text(Text::new(alloc, "milk")?)))
 }
 
-/// A command at the second item, with the text milk where it writes.
+/// A command at the second item, with the text milk if it writes.
 fn command(alloc: Global, does: Does) -> Result<Command, Refusal> {
     let at = second_item(alloc)?;
     match does {

@@ -56,7 +56,7 @@ fn has(log: &Log, id: OpId) -> bool
     log.find(id).is_some()
 }
 
-/// Whether there is room in the table for the operation's replica, and the operation wasn't applied.
+/// Whether the table has room for the operation's replica and the operation wasn't applied.
 fn fits(log: &Log, op: &Op) -> bool
     ensures fits { IsTrue result → lacks_room log.now.table op.now.id.replica ≡ false }
     ensures new { IsTrue result → has_id (applied log.now.entries) op.now.id ≡ false }
@@ -167,7 +167,7 @@ fn entries_are_handed_out(rt: HostRuntime) -> Result<(), Fail> {
     Ok(())
 }
 
-/// Three replicas with rising counters, in an order that isn't that of the ids.
+/// Three replicas with rising counters, in an order that isn't id order.
 const INTERLEAVED: &[Pair] = &[
     (1, 3),
     (2, 3),
@@ -191,7 +191,7 @@ fn interleaved(alloc: Global) -> Result<Log, Fail> {
     Ok(log)
 }
 
-/// Ids before, between and after those of a replica, and of replicas that aren't members.
+/// Ids before, between and after those of a replica, and of nonmembers.
 const NOWHERE: &[Pair] = &[
     (0, 2),
     (2, 1),

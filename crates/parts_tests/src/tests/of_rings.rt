@@ -1,4 +1,4 @@
-//! The tests of `rings`: lists of none to several rings, beside vectors that take the same.
+//! The tests of `rings`: lists of none to several rings, compared with vectors that take the same.
 
 use rings::Rings;
 use std::alloc::Global;
@@ -21,7 +21,7 @@ fn put(
     Ok(())
 }
 
-/// How many numbers come, and how far behind the one before it each goes, round the end.
+/// How many numbers come, and how far each goes behind the one before it, wrapping at the end.
 type Row = (usize, usize);
 
 /// Puts the numbers of a row into both.
@@ -43,7 +43,7 @@ fn assert_items(rt: &impl Abort, numbers: &Rings<usize>, want: &[usize]) {
     }
 }
 
-/// Each run has the items from its position on: its first one and its last one, and it ends within the list.
+/// Each run has the items from its position on, isn't empty, and ends within the list.
 fn assert_runs(rt: &impl Abort, numbers: &Rings<usize>, want: &[usize]) {
     for position in 0..numbers.len() {
         let run = numbers.run(position);
@@ -53,7 +53,7 @@ fn assert_runs(rt: &impl Abort, numbers: &Rings<usize>, want: &[usize]) {
     }
 }
 
-/// A ring lends one or two runs, and what stands behind the rings one: this many items before the next run.
+/// A ring lends one or two runs, and what is after the rings one: this many items before the next run.
 fn assert_lengths(rt: &impl Abort, numbers: &Rings<usize>, rows: &[(usize, usize)]) {
     for (position, want) in rows {
         assert!(rt; *position < numbers.len());
@@ -78,7 +78,7 @@ fn items_are_lent_in_runs(rt: HostRuntime) -> Result<(), Fail> {
             (4199, 1),
         ],
     );
-    // Three more at the front: each ring begins three slots before the end of its memory, and goes round behind them.
+    // Three more at the front: each ring begins three slots before the end of its memory, and wraps around.
     for _ in 0..3 {
         put_next(&mut numbers, &mut beside, 0)?;
     }
@@ -99,7 +99,7 @@ fn items_are_lent_in_runs(rt: HostRuntime) -> Result<(), Fail> {
     Ok(())
 }
 
-/// What a row puts stands where the vector has it, also as one slice, and takes one more at its front.
+/// What a row puts is where the vector has it, also as one slice, and takes one more at its front.
 fn assert_filled(rt: &impl Abort, alloc: Global, row: &Row) -> Result<(), Fail> {
     let mut numbers = Rings::new(alloc);
     let mut beside = Vec::new(alloc);
@@ -132,7 +132,7 @@ fn items_go_where_they_are_put(rt: HostRuntime) -> Result<(), Fail> {
     Ok(())
 }
 
-/// Puts a number that stands in neither yet at a position of both.
+/// Puts a number that is in neither yet at a position of both.
 fn put_next(
     numbers: &mut Rings<usize>,
     beside: &mut Vec<usize>,
@@ -142,7 +142,7 @@ fn put_next(
     put(numbers, beside, position, number)
 }
 
-/// Numbers go in at the ends and about the middle of two rings, which begin this many slots before the ends of their memory.
+/// Numbers are inserted at the ends and about the middle of two rings, which begin this many slots before the ends of their memory.
 fn assert_halves(rt: &impl Abort, alloc: Global, turns: usize) -> Result<(), Fail> {
     let mut numbers = Rings::new(alloc);
     let mut beside = Vec::new(alloc);
@@ -159,14 +159,14 @@ fn assert_halves(rt: &impl Abort, alloc: Global, turns: usize) -> Result<(), Fai
 
 #[test]
 fn items_go_into_both_halves_of_a_ring(rt: HostRuntime) -> Result<(), Fail> {
-    // What moves ends with the memory, goes round by one item, or by nearly all.
+    // What moves ends where the memory ends, or wraps by one item, or by nearly all.
     for turns in [0, 1, 1020, 1021, 1022, 2045, 2046, 2047] {
         assert_halves(&rt, rt.alloc(), turns)?;
     }
     Ok(())
 }
 
-/// Swaps two items of both, and writes over the first of them.
+/// Swaps two items of both, and overwrites the first of them.
 fn change(rt: &impl Abort, numbers: &mut Rings<usize>, beside: &mut [usize], a: usize, b: usize) {
     assert!(rt; a < numbers.len() && b < numbers.len());
     assert!(rt; a < beside.len() && b < beside.len());
@@ -209,7 +209,7 @@ fn items_change_and_go(rt: HostRuntime) -> Result<(), Fail> {
     Ok(())
 }
 
-/// The item at each of these positions goes out of both, one after the other.
+/// The item at each of these positions is removed from both, one after another.
 fn assert_removed(rt: &impl Abort, alloc: Global, positions: &[usize]) -> Result<(), Fail> {
     let mut numbers = Rings::new(alloc);
     let mut beside = Vec::new(alloc);

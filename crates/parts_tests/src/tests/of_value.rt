@@ -16,7 +16,7 @@ fn repeated(alloc: Global, letter: &str, times: usize) -> Result<String, AllocEr
     Ok(text)
 }
 
-/// How often a letter is repeated, the letter, and how many bytes are kept of that.
+/// How many times a letter is repeated, the letter, and how many bytes of the text are kept.
 type Long = (usize, &'static str, Result<usize, Refusal>);
 
 /// How many bytes a key of this text has.

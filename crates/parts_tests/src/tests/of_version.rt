@@ -34,7 +34,7 @@ fn vectors_name_nothing_at_first(rt: HostRuntime) -> Result<(), Fail> {
     Ok(())
 }
 
-/// Two counters that one is raised to, and what it is then.
+/// Two counters that one is raised to, and its value then.
 type Raised = (u64, u64, u64);
 
 /// A vector whose last counter was raised twice.
@@ -235,7 +235,7 @@ fn ids_go_where_they_are_put(rt: HostRuntime) -> Result<(), Fail> {
     Ok(())
 }
 
-/// Asserts which of the given ids are kept where the vector has these counters.
+/// Asserts which of the given ids are kept with a vector of these counters.
 fn assert_kept(
     rt: &impl Abort,
     alloc: Global,
@@ -279,7 +279,7 @@ fn first_ids(alloc: Global, most: u64) -> Result<IdColumns, Fail>
     columns(alloc, 1, &given)
 }
 
-/// Asserts that a vector that covers all ids but the last keeps that one, and that one more goes behind it.
+/// Asserts that a vector that covers all ids but the last keeps that one, and that one more goes after it.
 fn assert_last_kept(rt: &impl Abort, alloc: Global, most: u64) -> Result<(), Fail>
     requires any { 0 < most }
     requires few { most < 1000 }
@@ -315,7 +315,7 @@ fn raised_to(alloc: Global, pairs: &[Pair]) -> Result<GrowingVector, Fail> {
     Ok(vector)
 }
 
-/// Ids that a vector is raised to, its pairs then, and the greatest counter of these.
+/// Ids to which a vector is raised, its pairs then, and the greatest counter of these.
 type Applied = (&'static [Pair], &'static [Pair], u64);
 
 const APPLIED: [Applied; 6] = [

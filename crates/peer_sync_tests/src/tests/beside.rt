@@ -1,4 +1,4 @@
-//! What a line of a bundle tells beside the line before it.
+//! What a line of a bundle means relative to the line before it.
 
 use super::opening::on_others;
 use super::playing::Side::One;
@@ -10,7 +10,7 @@ use engine::Step::Published;
 /// The hello of an engine that has all four operations.
 const ALL: Turn = Hello("[\"hello\",[[1,2],[2,2],[3,1]]]\n");
 
-/// The fourth operation has the empty vector, as its line tells beside the third one, which names replica 1, and beside no line.
+/// The fourth operation has the empty vector, as its line says both after the third one, which names replica 1, and after no line.
 const HAS_NOTHING: &[Row] = &[
     (One, Step(Published(4))),
     (One, ALL),
@@ -24,14 +24,14 @@ const HAS_NOTHING: &[Row] = &[
     ),
 ];
 
-/// A replica that the operation before knew, and this one doesn't, has the counter 0.
+/// A replica that the operation before named and this one doesn't has the counter 0.
 #[test]
 fn a_vector_may_name_less_than_the_one_before(rt: HostRuntime) -> Result<(), Fail> {
     const ACTS: &[&[Row]] = &[&[(One, Receive(FOUR, 1, 4, 176, None))], HAS_NOTHING];
     on_others(&rt, rt.alloc(), 16, ACTS)
 }
 
-/// A line of profile 1 tells its whole vector, whatever came before.
+/// A line of profile 1 has its whole vector, whatever came before.
 #[test]
 fn a_line_of_profile_1_stands_alone(rt: HostRuntime) -> Result<(), Fail> {
     const MIXED: &str = r#"["op2",[1,1],[],[["m",0]],"key",["a","A"]]
@@ -43,7 +43,7 @@ fn a_line_of_profile_1_stands_alone(rt: HostRuntime) -> Result<(), Fail> {
     on_others(&rt, rt.alloc(), 16, ACTS)
 }
 
-/// A pair that tells what stands already is a bad line, and what comes before it stays.
+/// A pair that changes nothing makes a bad line, and what comes before it stays.
 #[test]
 fn a_pair_that_changes_nothing_is_bad(rt: HostRuntime) -> Result<(), Fail> {
     const SAME: &str = r#"["op2",[1,1],[],[["m",0]],"key",["a","A"]]

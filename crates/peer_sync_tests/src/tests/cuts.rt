@@ -8,8 +8,8 @@ use std::alloc::Global;
 use std::process::Abort;
 use std::sync::Wait;
 
-/// The five lines of a profile, and how many bytes the first ones have, line feeds included: none of them, the first, the first two, and
-/// so on.
+/// The five lines of a profile, and how many bytes the first ones have, line feeds included: none of them, the first, the first two, and so
+/// on.
 #[derive(Clone, Copy)]
 struct Bundle {
     text: &'static str,
@@ -38,7 +38,7 @@ const HELLOS: [&str; 6] = [
     "[\"hello\",[[1,5]]]\n",
 ];
 
-/// A cut within a line stops there, and what is whole before it is received, of a bundle as it is sent.
+/// A cut within a line stops there, and the whole lines before it are received, of a bundle as it is sent.
 #[test]
 fn a_cut_stops_after_the_last_whole_line(rt: HostRuntime) -> Result<(), Fail> {
     assert_eq!(rt; SENT.text.len(), 281);
@@ -48,7 +48,7 @@ fn a_cut_stops_after_the_last_whole_line(rt: HostRuntime) -> Result<(), Fail> {
     Ok(())
 }
 
-/// The same of a bundle of profile 1.
+/// The same for a bundle of profile 1.
 #[test]
 fn a_cut_stops_in_profile_1_too(rt: HostRuntime) -> Result<(), Fail> {
     assert_eq!(rt; ALONE.text.len(), 276);

@@ -1,11 +1,11 @@
-//! Operations that come before what they depend on, and those that depend on nothing.
+//! Operations that come before what they depend on, and operations that depend on nothing.
 
 use fixtures::{counted, field, id_of};
 use ids::Refusal;
 use operation::{Mutation, Op, Shared};
 use std::alloc::{AllocError, Global};
 
-/// The operation of replica 2 with this counter that deletes a key and depends on replica 3's operation of the counter before.
+/// The operation of replica 2 with this counter, which deletes a key and depends on replica 3's operation with the counter before.
 pub fn early_op(alloc: Global, counter: u64) -> Result<Shared<Op>, Refusal> {
     let op = Op {
         id: id_of((counter, 2))?,

@@ -1,4 +1,4 @@
-//! Two engines that write apart, and exchange what they wrote, byte for byte.
+//! Two engines that write concurrently, and exchange what they wrote, byte for byte.
 
 use super::opening::on_two;
 use super::playing::Side::{One, Two};
@@ -33,7 +33,7 @@ const B: &str = r#"["op2",[2,1],[[1,1]],[["m",0]],"key",["a","B"]]
 const C: &str = r#"["op2",[2,2],[[1,1]],[["m",0]],"key",["a","C"]]
 "#;
 
-/// Engine 1 writes at the key; once both have seen that, engine 1 and engine 2 write there apart, and exchange that.
+/// Engine 1 writes at the key; once both have seen that, engine 1 and engine 2 write there concurrently, and exchange that.
 const APART: &[Row] = &[
     (One, Write(Assign(KEY, Words("A")))),
     (Two, Pull(NEW, A)),

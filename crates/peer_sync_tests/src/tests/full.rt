@@ -1,4 +1,4 @@
-//! Bundles of more lines than a queue has places.
+//! Bundles of more lines than a queue has slots.
 
 use super::opening::{on_others, on_two};
 use super::playing::Side::{One, Two};
@@ -18,7 +18,7 @@ use std::alloc::Global;
 use std::process::Abort;
 use std::sync::Wait;
 
-/// A full queue stops lines of profile 1 too, at each receipt anew.
+/// A full queue stops lines of profile 1 too, at each receipt again.
 #[test]
 fn a_full_queue_stops_at_its_line(rt: HostRuntime) -> Result<(), Fail> {
     const ACTS: &[&[Row]] = &[
@@ -31,7 +31,7 @@ fn a_full_queue_stops_at_its_line(rt: HostRuntime) -> Result<(), Fail> {
             (Two, Hello("[\"hello\",[[1,2]]]\n")),
         ],
         &[
-            // The two that are known already fill the queue again.
+            // The two that are already known fill the queue again.
             (
                 Two,
                 Receive(FIVE_ALONE, 3, 2, 81, Some((3, Refusal::QueueFull))),
@@ -43,7 +43,7 @@ fn a_full_queue_stops_at_its_line(rt: HostRuntime) -> Result<(), Fail> {
     on_two(&rt, rt.alloc(), 2, ACTS)
 }
 
-/// After a stop at a full queue, steps and a new hello bring what is left, until nothing is lacking.
+/// After a stop at a full queue, steps and a new hello bring the rest, until nothing is missing.
 #[test]
 fn new_hellos_bring_what_a_full_queue_left(rt: HostRuntime) -> Result<(), Fail> {
     const LIST_AT: &[To] = &[Key("shopping")];
@@ -92,8 +92,8 @@ fn new_hellos_bring_what_a_full_queue_left(rt: HostRuntime) -> Result<(), Fail> 
     on_two(&rt, rt.alloc(), 2, ACTS)
 }
 
-/// What is left of a bundle is read beside the empty vector: another operation, whose counter doesn't come after its vector. The answer to
-/// a new hello tells the whole vector.
+/// The rest of a bundle is read relative to the empty vector: as another operation, whose counter doesn't come after its vector. The answer
+/// to a new hello has the whole vector.
 #[test]
 fn what_is_left_of_a_bundle_may_be_refused(rt: HostRuntime) -> Result<(), Fail> {
     const LEFT: &str = r#"["op2",[2,2],[],[["m",0]],"key",["a","C"]]
@@ -116,7 +116,7 @@ fn what_is_left_of_a_bundle_may_be_refused(rt: HostRuntime) -> Result<(), Fail> 
     on_others(&rt, rt.alloc(), 2, ACTS)
 }
 
-/// Beside the empty vector no pair has the counter 0: what is left of a bundle may be a bad line.
+/// Relative to the empty vector no pair has the counter 0: the rest of a bundle may be a bad line.
 #[test]
 fn what_is_left_of_a_bundle_may_be_bad(rt: HostRuntime) -> Result<(), Fail> {
     const LEFT: &str = r#"["op2",[1,3],[[1,0]],[["m",0]],"z",["d"]]
@@ -139,8 +139,8 @@ fn what_is_left_of_a_bundle_may_be_bad(rt: HostRuntime) -> Result<(), Fail> {
     on_others(&rt, rt.alloc(), 3, ACTS)
 }
 
-/// What is left of a bundle may also pass every test, as an operation that no engine made: of replica 3's write the vector no longer names
-/// replica 2, so that it doesn't take the place of B. It has the id of the true one, so no later exchange mends that.
+/// The rest of a bundle may also pass every test, as an operation that no engine made: the vector of replica 3's write no longer names
+/// replica 2, so the write doesn't take the place of B. It has the id of the true one, so no later exchange repairs that.
 #[test]
 fn what_is_left_of_a_bundle_may_be_kept(rt: HostRuntime) -> Result<(), Fail> {
     const KEY: &[To] = &[Key("key")];
@@ -182,8 +182,8 @@ fn what_is_left_of_a_bundle_may_be_kept(rt: HostRuntime) -> Result<(), Fail> {
     on_others(&rt, rt.alloc(), 3, ACTS)
 }
 
-/// Where nobody is there to say hello to, a bundle goes on behind the line at which the queue was full, once the writer stepped. All of its
-/// operations stand then, as they were written.
+/// If there is no peer to say hello to, a bundle goes on after the line at which the queue was full, once the writer has stepped. All its
+/// operations are then as they were written.
 #[test]
 fn a_receipt_goes_on(rt: HostRuntime) -> Result<(), Fail> {
     const ACTS: &[&[Row]] = &[
@@ -205,7 +205,7 @@ fn a_receipt_goes_on(rt: HostRuntime) -> Result<(), Fail> {
     on_others(&rt, rt.alloc(), 2, ACTS)
 }
 
-/// Receives a bundle, and goes on after a step wherever the queue is full; asserts how often it was.
+/// Receives a bundle, and goes on after a step whenever the queue is full; asserts how often that happened.
 pub fn receive_all<N: EngineName, R: Wait + Abort>(
     rt: &R,
     alloc: Global,

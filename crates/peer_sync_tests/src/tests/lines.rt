@@ -1,4 +1,4 @@
-//! Hellos, answers and bundles of any origin, as bytes.
+//! Hellos, answers and bundles from anywhere, as bytes.
 
 use super::opening::on_two;
 use super::playing::Row;

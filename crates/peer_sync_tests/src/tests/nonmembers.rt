@@ -1,4 +1,4 @@
-//! Replicas outside the members: engines that know only themselves, and how many others there may be.
+//! Nonmembers: engines that know only themselves, and how many other replicas there may be.
 
 use super::opening::{Numbers, Opening, on_opened};
 use super::playing::Side::{One, Two};
@@ -77,7 +77,7 @@ fn no_more_than_256_replicas_write(rt: HostRuntime) -> Result<(), Fail> {
     const ACTS: &[&[Row]] = &[&[
         (One, TakeFirsts(1001, 1192)),
         (One, TakeFirst(2000, Refused(Refusal::UnknownReplica, 192))),
-        // A member has its place from the beginning.
+        // A member has its index from the beginning.
         (One, TakeFirst(101, Kept(193))),
         (One, Dropped(0)),
     ]];

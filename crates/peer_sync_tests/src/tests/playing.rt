@@ -1,4 +1,4 @@
-//! What is done with two engines in a test, as a table of turns, and what plays it.
+//! What a test does with two engines, as a table of turns, and what plays them.
 
 use super::early::{early_op, first_line};
 use super::full::receive_all;
@@ -57,7 +57,7 @@ pub enum Turn {
     Answer(&'static str, Result<&'static str, Refusal>),
     /// Its client receives these bytes: the first serial, how many were submitted, how many bytes their lines have, and the stop.
     Receive(&'static str, u64, u64, usize, Option<(u64, Refusal)>),
-    /// Its client receives these lines, and goes on after a step of its writer wherever the queue is full: how often it was.
+    /// Its client receives these lines, and goes on after a step of its writer whenever the queue is full: how often that happened.
     ReceiveAll(&'static str, u32),
     /// Its client receives the answers of this file, and its writer steps until idle after each: how many operations were submitted, and
     /// the stop of the last answer.
@@ -70,15 +70,16 @@ pub enum Turn {
     TakeFirst(u32, Told),
     /// The same for each of these replicas, from the first to the last: each is kept, in a history that was empty.
     TakeFirsts(u32, u32),
-    /// Its client delivers the operation of replica 2 with this counter, which depends on replica 3's one before, and polls after a step.
+    /// Its client delivers the operation of replica 2 with this counter, which depends on replica 3's one before it, and polls after a
+    /// step.
     TakeEarly(u64, Told),
     /// The same for each of these counters, from the first to the last.
     TakeAllEarly(u64, u64, Told),
     /// How many operations of peers it has dropped.
     Dropped(u64),
-    /// It says this hello, the other engine gives this answer, and its client receives that and its writer steps.
+    /// It says this hello, the other engine gives this answer, its client receives the answer, and its writer steps.
     Pull(&'static str, &'static str),
-    /// Its reader asks what stands at a place.
+    /// Its reader asks what is at a place.
     Show(&'static [To], Shown),
     /// How many entries its reader has seen.
     Seen(usize),
@@ -227,12 +228,12 @@ fn take_turn<N: EngineName, R: Wait + Abort>(
     Ok(())
 }
 
-/// The writer steps, and does so.
+/// Makes the writer step, and asserts the result.
 fn step<N: EngineName, R: Wait + Abort>(rt: &R, alloc: Global, writer: &mut Writer<N>, want: Step) {
     assert_eq!(rt; writer.step(rt, alloc), want);
 }
 
-/// The client receives these bytes, of which so much is submitted.
+/// Makes the client receive these bytes, and asserts how much is submitted.
 fn assert_received<N: EngineName, R: Wait + Abort>(
     rt: &R,
     alloc: Global,
@@ -272,7 +273,7 @@ fn take_first<N: EngineName, R: Wait + Abort>(
     take_line(rt, alloc, stage, line.as_str(), want)
 }
 
-/// Receives the first lines of these replicas, of which each makes the history longer by one.
+/// Receives the first lines of these replicas, each of which makes the history longer by one.
 fn take_firsts<N: EngineName, R: Wait + Abort>(
     rt: &R,
     alloc: Global,
@@ -341,7 +342,7 @@ fn handle<N: EngineName, R: Wait + Abort>(
     Ok(())
 }
 
-/// Whether a peer's operation is answered so.
+/// Whether this is the answer to a peer's operation.
 fn is_told(reply: Option<Reply>, want: Told) -> bool {
     match (reply, want) {
         (Some(Reply::Kept(length)), Told::Kept(want)) => length == want,
@@ -416,7 +417,7 @@ fn assert_answer<N: EngineName>(
     assert!(rt; is_answer(&answered, want), "of {said}");
 }
 
-/// Whether it is this answer, or refused so.
+/// Whether it is this answer, or was refused for this reason.
 fn is_answer(answered: &Result<Vec<u8>, Refusal>, want: Result<&str, Refusal>) -> bool {
     match (answered, want) {
         (Ok(text), Ok(want)) => text.as_slice() == want.as_bytes(),

@@ -1,7 +1,7 @@
-//! An exchange in which an allocation fails goes on, and ends as it would have. Engine 2 knows only itself.
+//! An exchange in which an allocation fails goes on, and ends as it otherwise would have. Engine 2 knows only itself.
 //!
-//! To be run with each allocation refused in turn (`tests/refused_memory.sh`): what is refused is called once more and counted, so each
-//! run passes, and each answer that isn't refused is that of a run in which no allocation fails.
+//! Run with each allocation refused in turn (`tests/refused_memory.sh`): a refused call is made once more and counted, so each run passes,
+//! and each answer that isn't refused is that of a run in which no allocation fails.
 
 ghost use Rattle.std.specs.Prelude.{◌≡◌};
 ghost use Rattle.ids.specs.Members.{in_order};
@@ -47,14 +47,14 @@ const SHOWN: &[(&[To], Shown)] = &[
 const ALL: &str = r#"["hello",[[1,6],[2,6]]]
 "#;
 
-/// What one wrote while the other deleted, beside that: both have the same vector.
+/// What one wrote while the other deleted, and that delete: both have the same vector.
 const HAM_NEXT: &str = r#"["op2",[6,2],[],[["m",0],["l","shopping"]],[3,1],["a","ham"]]
 "#;
 
 const DELETED_NEXT: &str = r#"["op2",[6,1],[],[["m",0],["l","shopping"]],[3,1],["d"]]
 "#;
 
-/// How often memory was refused, in answers of engines and where a test makes its own values.
+/// How many allocations were refused, in answers of engines and where a test makes its own values.
 #[derive(Drop)]
 struct Refused {
     times: u32,
@@ -119,7 +119,7 @@ fn with_one<N: EngineName, R: Wait + Abort>(
     requires own { parts.config.own ≡ N.own }
     requires table { in_order parts.config.members ≡ N.table }
 {
-    // `open` is refused for a failed allocation, or because the copies have no place for a reader.
+    // `open` is refused because an allocation failed, or because the copies have no token for a reader.
     let Ok((mut writer, mut clients, mut readers)) = open::<N>(rt, alloc, parts) else {
         refused.note();
         return Ok(false);
@@ -149,7 +149,7 @@ fn on_one<N: EngineName, R: Wait + Abort>(
     open_two(rt, alloc, refused, &mut stage)
 }
 
-/// Whether all was played; then all seven operations are published, and nothing is left.
+/// Whether all was played; all seven operations are then published, and nothing is left.
 fn has_seven<R: Abort>(rt: &R, played: Result<(), Fail>, last: &Final) -> Result<bool, Fail> {
     played?;
     assert_eq!(rt; last.history.len(), 7);
@@ -222,7 +222,7 @@ fn on_both<N: EngineName, M: EngineName, R: Wait + Abort>(
     play(rt, alloc, refused, one, &mut stage)
 }
 
-/// Engine 1 writes, engine 2 takes that; then each writes for itself, and they exchange it.
+/// Engine 1 writes, and engine 2 takes that; then each writes by itself, and they exchange it.
 fn play<N: EngineName, M: EngineName, R: Wait + Abort>(
     rt: &R,
     alloc: Global,
@@ -291,7 +291,7 @@ fn try_submit<N: EngineName, R: Wait>(
     Ok(ticket.serial)
 }
 
-/// Steps until there is nothing to do. A step that is held is followed by another one.
+/// Steps until there is nothing to do. A step that ends in `Held` is followed by another one.
 fn step_all<N: EngineName, R: Wait>(
     rt: &R,
     alloc: Global,
@@ -308,8 +308,8 @@ fn step_all<N: EngineName, R: Wait>(
     Err("there is still something to do".into())
 }
 
-/// One engine takes what the other has, until it lacks nothing. The first bundle is this one, and each later one is an end of it: where a
-/// vector names one replica, what changed since the line before is all of it.
+/// One engine takes what the other has, until it lacks nothing. The first bundle is this one, and each later one is a suffix of it: if a
+/// vector names one replica, what changed since the line before is the whole vector.
 fn pull<N: EngineName, M: EngineName, R: Wait + Abort>(
     rt: &R,
     alloc: Global,
@@ -327,7 +327,7 @@ fn pull<N: EngineName, M: EngineName, R: Wait + Abort>(
     Err("something is still lacking".into())
 }
 
-/// One engine takes what it lacks, an end of this bundle. Returns how many bytes that is.
+/// One engine takes what it lacks, a suffix of this bundle. Returns how many bytes that is.
 fn get<N: EngineName, M: EngineName, R: Wait + Abort>(
     rt: &R,
     alloc: Global,
@@ -357,7 +357,7 @@ fn said<N: EngineName>(
     }
 }
 
-/// A reader's answer to a hello, in the same way.
+/// A reader's answer to a hello, likewise.
 fn answered<N: EngineName>(
     alloc: Global,
     refused: &mut Refused,
@@ -373,7 +373,7 @@ fn answered<N: EngineName>(
     }
 }
 
-/// Receives a bundle and handles it: how many bytes it has. Where allocation fails some of it isn't kept.
+/// Receives a bundle and handles it. Returns how many bytes it has. If an allocation fails, some of it isn't kept.
 fn take<N: EngineName, R: Wait>(
     rt: &R,
     alloc: Global,
@@ -394,8 +394,8 @@ fn take<N: EngineName, R: Wait>(
     Ok(bundle.len())
 }
 
-/// Counts a refusal of a peer's operation, if allocation failed. It is known if it came again, since another one of the same
-/// bundle was refused.
+/// Counts a refusal of a peer's operation, if an allocation failed. The operation is known if it came again, because another one of the
+/// same bundle was refused.
 fn note_reply(refused: &mut Refused, reply: Option<Reply>) -> Result<(), Fail> {
     match reply {
         Some(Reply::Kept(_)) => {}
@@ -424,7 +424,7 @@ fn end<N: EngineName, R: Wait + Abort>(
     Ok(())
 }
 
-/// Compares what a reader says that has seen all.
+/// Compares what a reader says that has seen everything.
 fn assert_said<N: EngineName>(
     rt: &impl Abort,
     alloc: Global,

@@ -19,10 +19,10 @@ pub enum To {
     Index(u64),
 }
 
-/// What stands where an expression leads.
+/// What is expected where an expression leads.
 #[derive(Clone, Copy)]
 pub enum Shown {
-    /// These texts, with the ids of what wrote them.
+    /// These texts, with the ids of the operations that wrote them.
     Values(&'static [(Pair, &'static str)]),
     /// These keys of the map there.
     Keys(&'static [&'static str]),

@@ -1,4 +1,4 @@
-//! A file of answers, each after its length: how an application may keep a document.
+//! A file of answers, each after its length: one way for an application to keep a document.
 
 use super::opening::{on_others, on_two};
 use super::playing::Row;
@@ -15,7 +15,7 @@ use std::alloc::{AllocError, Global};
 use std::process::Abort;
 use std::sync::Wait;
 
-/// What engine 1 answers to the empty hello, and twice later to the hello that it said before, each behind its length.
+/// What engine 1 answers to the empty hello, and twice later to the hello that it said before, each after its length.
 const FILE: &str = r#"91
 ["op2",[1,1],[],[["m",0]],"key",["a","A"]]
 ["op2",[2,1],[[1,1]],[["m",0]],"key",["a","B"]]
@@ -84,7 +84,7 @@ const KEPT: &[Row] = &[
     (One, Keep("[\"hello\",[[1,3],[2,2]]]\n", 200, 304)),
 ];
 
-/// What the engine whose answers they are says and shows at the end, and each one that has them.
+/// What the engine that gave the answers says and shows at the end, and so does each one that has them.
 const END: &[Row] = &[
     (One, Hello("[\"hello\",[[1,5],[2,4]]]\n")),
     (One, Seen(6)),
@@ -103,7 +103,7 @@ const WHOLE: &str = r#"["op2",[1,1],[],[["m",0]],"key",["a","A"]]
 ["op2",[5,1],[[2,4]],[["m",0]],"key",["a","F"]]
 "#;
 
-/// Each answer is given to the hello that was said before it, and kept behind its length.
+/// Each answer is given to the hello that was said before it, and kept after its length.
 #[test]
 fn answers_are_kept_with_their_lengths(rt: HostRuntime) -> Result<(), Fail> {
     const ACTS: &[&[Row]] = &[KEPT, END];
@@ -117,7 +117,7 @@ fn a_file_of_answers_is_read_back(rt: HostRuntime) -> Result<(), Fail> {
     on_others(&rt, rt.alloc(), 16, ACTS)
 }
 
-/// Of a file that is cut anywhere each whole line comes in, also of the answer that is cut, and nothing else.
+/// From a file that is cut anywhere, each whole line is read, including those of the answer that is cut, and nothing else.
 #[test]
 fn a_cut_file_keeps_its_whole_lines(rt: HostRuntime) -> Result<(), Fail> {
     assert_eq!(rt; FILE.len(), 304);
@@ -158,8 +158,8 @@ fn whole_lines(length: usize) -> (usize, Option<(u64, Refusal)>) {
     (whole, stopped)
 }
 
-/// Answers are bundles of their own: as one text the second one would be read beside the last line of the first, which has the vector
-/// that it tells.
+/// Answers are bundles of their own: as one text, the second one would be read relative to the last line of the first, which has the vector
+/// that it says.
 #[test]
 fn answers_in_a_row_are_no_bundle(rt: HostRuntime) -> Result<(), Fail> {
     const IN_A_ROW: &str = r#"["op2",[1,1],[],[["m",0]],"key",["a","A"]]
@@ -178,7 +178,7 @@ fn answers_in_a_row_are_no_bundle(rt: HostRuntime) -> Result<(), Fail> {
     on_others(&rt, rt.alloc(), 16, ACTS)
 }
 
-/// Asserts that the answer to this hello, behind its length, is the file from this byte to that one.
+/// Asserts that the answer to this hello, after its length, is the file from this byte to that one.
 pub fn assert_kept<N: EngineName>(
     rt: &impl Abort,
     alloc: Global,
@@ -193,7 +193,7 @@ pub fn assert_kept<N: EngineName>(
     Ok(())
 }
 
-/// An answer behind its length.
+/// An answer after its length.
 fn with_length(alloc: Global, answered: &[u8]) -> Result<Vec<u8>, AllocError> {
     let length = format!(in alloc; "{}\n", answered.len())?;
     let mut kept = Vec::new(alloc);
@@ -230,7 +230,7 @@ pub fn read_back<N: EngineName, R: Wait + Abort>(
     Ok(())
 }
 
-/// The next answer of a file, of which less may be there than its length says, and what is behind it; `None` where its length is cut.
+/// The next answer of a file, which may have fewer bytes than its length says, and what is after it; `None` if its length is cut.
 fn next_kept(file: &str) -> Option<(&str, &str)> {
     let (length, rest) = file.split_once('\n')?;
     let length = length.parse::<usize>().ok()?;

@@ -1,4 +1,4 @@
-//! A queue of submissions: its limits, full and empty, its order, its two ends in threads of their own; and answers.
+//! A queue of submissions: its limits, full and empty, its order, and its two ends in threads of their own; and answers.
 
 ghost use Rattle.std.specs.Prelude.{◌≡◌, ◌+◌, ◌++◌, ◌∷◌, [], IfOk, length};
 ghost use Rattle.crossbeam_queue.specs.Passes.{view};

@@ -10,7 +10,7 @@ const FULL: Answer = Err(Refusal::InboxFull);
 
 const NO_ROOM: Answer = Err(Refusal::UnknownReplica);
 
-/// Delivers 2@2 to 4097@2, each of which waits for replica 3. Returns the serial that the client goes on with.
+/// Delivers 2@2 to 4097@2, each of which waits for replica 3. Returns the client's next serial.
 fn fill(rt: &impl Abort, alloc: Global, replica: &mut Replica, serial: u64) -> Result<u64, Refusal>
     requires { IsAbove 0 serial replica.old.document.entries }
     ensures { IfOk result (λ next. IsAbove 0 next replica.new.document.entries) }
@@ -40,7 +40,7 @@ fn fill_and_play(
     Ok(())
 }
 
-/// Plays these turns on replica 1, once 4,096 operations wait there, none of which is ready. Asserts the ids of the history then.
+/// Plays these turns on replica 1, once 4,096 operations wait there, none of which is ready. Asserts the ids that the history then has.
 fn on_full(
     rt: &impl Abort,
     alloc: Global,
@@ -81,7 +81,7 @@ fn of_many(alloc: Global) -> Result<Replica, Refusal>
     Replica::new(alloc, 5, &members)
 }
 
-/// Delivers 1@1001 to 1@1192, each of which is kept and applied. Returns the serial that the client goes on with.
+/// Delivers 1@1001 to 1@1192, each of which is kept and applied. Returns the client's next serial.
 fn fill_table(
     rt: &impl Abort,
     alloc: Global,
@@ -107,7 +107,7 @@ fn expect_full(rt: &impl Abort, replica: &Replica) {
     assert_eq!(rt; replica.document().table().len(), 256);
 }
 
-/// Takes these turns, lets 192 replicas join 64 members, and takes those turns.
+/// Takes the first turns, lets 192 replicas join 64 members, and takes the last turns.
 fn play_over_joins(
     rt: &impl Abort,
     alloc: Global,
@@ -124,7 +124,7 @@ fn play_over_joins(
     Ok(())
 }
 
-/// Plays these turns on replica 5, one of 64 members, lets 192 others join there, and plays those turns.
+/// Plays the first turns on replica 5, one of 64 members, lets 192 others join there, and plays the last turns.
 fn over_joins(
     rt: &impl Abort,
     alloc: Global,

@@ -1,4 +1,4 @@
-//! Operations of replicas that aren't members, and that name such ones.
+//! Operations of nonmembers, and operations that name nonmembers.
 
 use super::playing::on_lone;
 use super::*;
@@ -19,7 +19,7 @@ fn what_newcomers_wrote_is_kept(rt: HostRuntime) -> Result<(), Fail> {
     on_new(&rt, rt.alloc(), 1, TURNS, &[(1, 4), (2, 2)])
 }
 
-/// An item of a newcomer is no place where the vector doesn't cover it, and none of a list where it was never inserted.
+/// A newcomer's item isn't a place for an operation whose vector doesn't cover it, nor in a list into which it was never inserted.
 #[test]
 fn items_of_newcomers_are_tested(rt: HostRuntime) -> Result<(), Fail> {
     const TURNS: &[Turn<'static>] = &[
@@ -64,7 +64,7 @@ fn the_first_that_is_applied_joins_first(rt: HostRuntime) -> Result<(), Fail> {
     on_lone(&rt, rt.alloc(), 1, TURNS, HISTORY)
 }
 
-/// The values stand in the order of their ids, though the index of replica 2 is the greater one.
+/// The values are in id order, though replica 2 has the greater index.
 #[test]
 fn a_newcomer_writes_beside_the_own_replica(rt: HostRuntime) -> Result<(), Fail> {
     const TURNS: &[Turn<'static>] = &[

@@ -1,6 +1,6 @@
-//! What is done with a replica in a test, as a table of turns, and what plays it.
+//! What a test does with a replica, as a table of turns, and what plays them.
 //!
-//! A turn whose allocation is refused is taken once more, so that a test passes whichever allocation is refused. With none refused,
+//! A turn whose allocation is refused is taken once more, so that a test passes whichever allocation is refused. If none is refused,
 //! nothing is done twice.
 
 ghost use Rattle.std.specs.Prelude.{◌≡◌, ℕ, IfOk, OnErr};
@@ -31,7 +31,7 @@ pub enum Writes<'a> {
     Delete,
     /// A delete of this item of the list at `key`.
     DeleteItem(Pair),
-    /// An insert of a map at the field `key` of the root, where no insert may stand.
+    /// An insert of a map at the field `key` of the root, where an insert isn't allowed.
     Insert,
 }
 
@@ -44,7 +44,7 @@ pub enum Turn<'a> {
     Assign(&'a str, &'a str, Pair),
     /// Delivers an operation with this id and with these counters in its vector: the answer. Nothing is drained.
     Deliver(Pair, &'a [u64], Writes<'a>, Answer),
-    /// Drains. How many operations are applied then, and how many were dropped.
+    /// Drains: how many operations are then applied, and how many were dropped.
     Drain(usize, u64),
     /// Appends the next one that is ready, if there is one: its id.
     Next(Option<Pair>),
@@ -79,7 +79,7 @@ fn item(alloc: Global, pair: Pair) -> Result<Place, Refusal> {
     Ok(field(alloc, "key")?.item(alloc, id)?)
 }
 
-/// The place that an operation writes at.
+/// The place at which an operation writes.
 fn place(alloc: Global, writes: Writes<'_>) -> Result<Place, Refusal> {
     match writes {
         Writes::Text(key, _) => field(alloc, key),
@@ -119,7 +119,8 @@ fn make(rt: &impl Abort, alloc: Global, replica: &mut Replica, want: Pair) -> Re
     Ok(())
 }
 
-/// Client 0 assigns a text at a field of the root, under a serial above those it had: the operation has this id. Returns the next serial.
+/// Client 0 assigns a text at this field of the root, under a serial above its earlier ones: the operation has this id. Returns the next
+/// serial.
 fn assign(
     rt: &impl Abort,
     alloc: Global,
@@ -225,7 +226,7 @@ fn expect_table(rt: &impl Abort, table: &ReplicaTable, numbers: &[u32]) {
     }
 }
 
-/// Takes a turn. A client assigns under this serial. Returns the serial that it goes on with.
+/// Takes a turn. A client assigns under this serial. Returns the next serial.
 fn try_turn(
     rt: &impl Abort,
     alloc: Global,
@@ -290,7 +291,7 @@ fn take_turn(
     try_turn(rt, alloc, replica, serial, turn)
 }
 
-/// Takes these turns in order. The client assigns from this serial on. Returns the serial after them.
+/// Takes these turns in order. The client assigns from this serial on. Returns the next serial.
 pub fn play(
     rt: &impl Abort,
     alloc: Global,
@@ -327,7 +328,7 @@ pub fn expect_history(rt: &impl Abort, replica: Replica, history: &[Pair]) {
     }
 }
 
-/// Takes these turns and then those. The client's first serial is 1.
+/// Takes the first turns and then the last. The client's first serial is 1.
 fn play_both(
     rt: &impl Abort,
     alloc: Global,
@@ -342,7 +343,7 @@ fn play_both(
     Ok(())
 }
 
-/// Plays these turns and then those on a new replica of this number among 1, 2 and 3. Asserts the ids of its history then.
+/// Plays the first turns and then the last on a new replica of this number among 1, 2 and 3. Asserts the ids that its history then has.
 pub fn on_new_after(
     rt: &impl Abort,
     alloc: Global,
@@ -357,7 +358,7 @@ pub fn on_new_after(
     Ok(())
 }
 
-/// Plays these turns on a new replica of this number among 1, 2 and 3. Asserts the ids of its history then.
+/// Plays these turns on a new replica of this number among 1, 2 and 3. Asserts the ids that its history then has.
 pub fn on_new(
     rt: &impl Abort,
     alloc: Global,
@@ -368,7 +369,7 @@ pub fn on_new(
     on_new_after(rt, alloc, own, &[], turns, history)
 }
 
-/// Plays these turns on a new replica of this number that is the one member. Asserts the ids of its history then.
+/// Plays these turns on a new replica whose number is the only member. Asserts the ids that its history then has.
 pub fn on_lone(
     rt: &impl Abort,
     alloc: Global,

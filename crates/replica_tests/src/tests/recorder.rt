@@ -1,4 +1,4 @@
-//! A publisher of a test, which keeps the entries that it is given.
+//! A publisher for tests, which keeps the entries that it is given.
 
 ghost use Rattle.std.specs.Prelude.{[], ◌≡◌};
 
@@ -7,7 +7,7 @@ use replica::Publish;
 use std::alloc::{AllocError, Global};
 use std::marker::{Brand, PhantomData};
 
-/// A replica's number, its members, and its history before a drain, in proofs alone. Whoever drains picks them.
+/// A replica's number, its members, and its history before a drain, in proofs alone. The caller that drains picks them.
 pub trait Before {
     ghost use Rattle.std.specs.Prelude.{ℕ, List};
     ghost use Rattle.semantics.specs.Entries.{Entry as TheEntry};
@@ -19,7 +19,7 @@ pub trait Before {
     ghost entries: { List TheEntry };
 }
 
-/// These stand only where no caller picks others.
+/// These values hold only if no caller picks others.
 impl Before for Brand {
     ghost use Rattle.std.specs.Prelude.{[]};
 

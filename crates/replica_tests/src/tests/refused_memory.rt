@@ -1,7 +1,7 @@
-//! A call whose allocation is refused leaves the replica as it was, and answers as ever when it is called again.
+//! A call whose allocation is refused leaves the replica as it was, and answers as usual when it is called again.
 //!
-//! To be run with each allocation refused in turn (`tests/refused_memory.sh`): a turn that is refused is taken once more, so each
-//! run passes. With none refused, nothing is called again.
+//! Run with each allocation refused in turn (`tests/refused_memory.sh`): a refused turn is taken once more, so each run passes. If none is
+//! refused, nothing is called again.
 
 use super::*;
 
@@ -20,10 +20,10 @@ const EIGHT: &[Turn<'static>] = &[
     Turn::Lengths(5, 0),
 ];
 
-/// Delivers 6@3 again, after all left.
+/// Delivers 6@3 again, after all have left.
 const FORGED: Turn<'static> = Turn::Deliver((6, 3), &[5, 4, 0], Writes::Delete, NAMES_NOTHING);
 
-/// What is applied after all left.
+/// What is applied after all have left.
 const SEVEN: &[Pair] = &[(1, 1), (2, 1), (3, 2), (4, 1), (5, 1), (6, 2), (7, 2)];
 
 #[test]
@@ -46,7 +46,7 @@ fn drains_go_on(rt: HostRuntime) -> Result<(), Fail> {
     on_new_after(&rt, rt.alloc(), 1, EIGHT, TURNS, SEVEN)
 }
 
-/// 3@3 waits for 1@3, and once that came for 2@1, which waits for 1@1.
+/// 3@3 waits for 1@3, and once that has come for 2@1, which waits for 1@1.
 #[test]
 fn what_waits_twice_goes_on(rt: HostRuntime) -> Result<(), Fail> {
     const TURNS: &[Turn<'static>] = &[

@@ -95,7 +95,7 @@ fn ids_without_form(rt: HostRuntime) -> Result<(), Fail> {
     are_bad_with(&rt, rt.alloc(), SECOND, delete, PATHS, "E22")
 }
 
-/// The first fault of a line decides: an id where none may stand, or else the value behind it.
+/// The first fault of a line decides: an id where none is allowed, or else the value after it.
 #[test]
 fn ids_before_values(rt: HostRuntime) -> Result<(), Fail> {
     const LINES: &[&str] = &[r#"["push",0,0,["assign",["a",[1,1]],1.5]]"#];
@@ -124,7 +124,7 @@ fn vectors_without_form(rt: HostRuntime) -> Result<(), Fail> {
         "[[1,1.0]]",
         "[[4294967296,1]]",
         "[[1,4611686018427387905]]",
-        // Not rising.
+        // Out of ascending order.
         "[[1,1],[1,1]]",
         "[[3,1],[1,1]]",
         "[[1,1],[3,1],[3,2]]",
@@ -133,7 +133,7 @@ fn vectors_without_form(rt: HostRuntime) -> Result<(), Fail> {
     are_bad_with(&rt, rt.alloc(), FIRST, missing, VECTORS, "E22")
 }
 
-/// A vector is a part like any other; only after all parts it is tested whether the engine exists.
+/// A vector is a part like any other; whether the engine exists is tested only after all parts.
 #[test]
 fn questions_to_nobody(rt: HostRuntime) -> Result<(), Fail> {
     const LINES: &[&str] = &[
@@ -148,10 +148,10 @@ fn questions_to_nobody(rt: HostRuntime) -> Result<(), Fail> {
     are_bad(&rt, rt.alloc(), FIRST, LINES, "E22")
 }
 
-/// What stands around a long text, the text's letter and how often it is repeated, and how the line is bad.
+/// What surrounds a long text, the text's letter and how many times it is repeated, and how the line is bad.
 type Long<'a> = (Around<'a>, &'a str, usize, &'a str);
 
-/// A key of 257 bytes is refused before what stands on its right, and so is a text of 4,097.
+/// A key of 257 bytes is refused before what is on its right, and so is a text of 4,097.
 const LONG: &[Long] = &[
     ((r#"["push",0,0,["delete",[0,""#, r#""]]]"#), "k", 257, "E6"),
     (

@@ -1,4 +1,4 @@
-//! Bad scripts: what is told of the first bad line.
+//! Bad scripts: what is reported of the first bad line.
 
 use super::playing::{
     Around, ONE, are_bad, are_bad_first, are_bad_with, is_bad, is_bad_with, is_refused,
@@ -96,7 +96,7 @@ fn first_lines_without_form(rt: HostRuntime) -> Result<(), Fail> {
     are_bad_first(&rt, rt.alloc(), LINES, "E22")
 }
 
-/// The mark of a byte order before the first line.
+/// A byte order mark before the first line.
 #[test]
 fn a_mark_before_the_first_line(rt: HostRuntime) -> Result<(), Fail> {
     let alloc = rt.alloc();
@@ -173,7 +173,7 @@ fn lines_that_are_cut(rt: HostRuntime) -> Result<(), Fail> {
     Ok(())
 }
 
-/// A line with a byte that is no UTF-8, between what comes before and after it.
+/// A line with a byte that isn't UTF-8, between what comes before and after it.
 fn with_byte(alloc: Global, around: Around) -> Result<Vec<u8>, AllocError> {
     let mut script = Vec::new(alloc);
     script.extend_from_slice(around.0.as_bytes())?;
@@ -188,7 +188,7 @@ fn is_no_text(rt: &impl Abort, alloc: Global, around: Around) -> Result<(), Allo
     is_refused(rt, alloc, script.as_slice(), around.0, (2, "E22"))
 }
 
-/// Such a byte behind a line and in a key.
+/// Such a byte after a line, and in a key.
 #[test]
 fn lines_that_are_no_text(rt: HostRuntime) -> Result<(), Fail> {
     const BEHIND: Around = (
@@ -238,7 +238,7 @@ fn indices_that_are_no_numbers(rt: HostRuntime) -> Result<(), Fail> {
     Ok(())
 }
 
-/// What stands around a value that is assigned.
+/// What surrounds an assigned value.
 const ASSIGNED: Around = (r#"["push",0,0,["assign",["a"],"#, "]]");
 
 #[test]
@@ -276,7 +276,7 @@ fn what_is_not_there(rt: HostRuntime) -> Result<(), Fail> {
     are_bad(&rt, rt.alloc(), ONE, LINES, "E22")
 }
 
-/// What stands around a key that is too long, and how the line is bad.
+/// What surrounds a key that is too long, and how the line is bad.
 const LONG_KEYS: &[(Around, &str)] = &[
     ((r#"["push",0,0,["assign",[""#, r#""],1]]"#), "E6"),
     ((r#"["ask",0,0,["values",[""#, r#""]]]"#), "E6"),
@@ -289,7 +289,7 @@ const LONG_KEYS: &[(Around, &str)] = &[
     ((r#"["push",0,0,["assign",[""#, r#""],1],0]"#), "E22"),
 ];
 
-/// The first fault of a line decides: its length and first word, then its parts from the left, then what is there.
+/// The first fault of a line decides: its length and first word, then its parts from the left, then what exists.
 #[test]
 fn long_keys_beside_other_faults(rt: HostRuntime) -> Result<(), Fail> {
     let key = "k".repeat(rt.alloc(), 257)?;

@@ -168,7 +168,7 @@ const FAULTS: &[(&str, u32, &str)] = &[
     ),
 ];
 
-/// The first part of another form decides, and every form goes before what exists.
+/// The first part of another form decides, and every fault of form comes before what exists.
 #[test]
 fn the_first_fault_decides(rt: HostRuntime) -> Result<(), Fail> {
     for (script, line, why) in FAULTS {

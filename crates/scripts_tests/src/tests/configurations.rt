@@ -19,7 +19,7 @@ fn engines_without_form(rt: HostRuntime) -> Result<(), Fail> {
         r#"["world",[[1,["1"],1,1,4,4,10]]]"#,
         r#"["world",[[1,[1,null],1,1,4,4,10]]]"#,
         r#"["world",[[1,[[1]],1,1,4,4,10]]]"#,
-        // A part of another form goes before every number that is out of range.
+        // A part of another form comes before every number that is out of range.
         r#"["world",[[4294967296,[1],1,1,4,4,"10"]]]"#,
         r#"["world",[[1,[4294967296,-1],1,1,4,4,10]]]"#,
         r#"["world",[[0,[],0,0,0,0,-1]]]"#,

@@ -52,7 +52,7 @@ fn none_and_more_than_sixteen(rt: HostRuntime) -> Result<(), Fail> {
     Ok(())
 }
 
-/// Another number of engines is a fault of form, and goes before every limit.
+/// Another number of engines is a fault of form, and comes before every limit.
 #[test]
 fn their_number_goes_before_limits(rt: HostRuntime) -> Result<(), Fail> {
     for parts in ["0,[],0,0,0,0,0", "4294967296,[1],1,1,4,4,10"] {

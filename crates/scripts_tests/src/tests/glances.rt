@@ -1,4 +1,4 @@
-//! Glances as JSON for people: rows, and what they are written as.
+//! Glances as human-readable JSON: rows, and how they are written.
 
 use document::{Glance, Hop, Kinds, Row};
 use fixtures::id_of;
@@ -17,7 +17,7 @@ enum By {
     Item,
 }
 
-/// As what something stands.
+/// Which kinds of value are present.
 #[derive(Clone, Copy)]
 enum As {
     Nothing,
@@ -30,7 +30,7 @@ enum As {
     TextsAndMap(&'static [&'static str]),
 }
 
-/// One element: how deep it is, how it is entered, as what something stands there, and whether more stands beneath.
+/// One element: its depth, how it is entered, which kinds of value are present, and whether more is beneath it.
 type Element = (usize, By, As, bool);
 
 /// Elements, whether there are more of them, and the JSON.
@@ -87,7 +87,7 @@ const CASES: &[Case] = &[
         false,
         r#"{"?":"conflict","list":["b"],"map":{"k":"a"}}"#,
     ),
-    // Where the elements end among the items the fields are all there, and where they end among the fields both lack some.
+    // If the elements end among the items, the fields are all there; if they end among the fields, both lack some.
     (
         &[
             (0, By::Asked, As::MapAndList, false),

@@ -1,4 +1,4 @@
-//! Scripts in which every line is of its form.
+//! Scripts in which every line has its form.
 
 use super::playing::{Around, ONE, joined, replies_so, replies_well, with_part};
 use std::alloc::{AllocError, Global};
@@ -101,8 +101,8 @@ fn messages_reply_a_line(rt: HostRuntime) -> Result<(), Fail> {
     reply_lines(&rt, rt.alloc(), LINES)
 }
 
-/// Texts in profile 2: one with a difference that is none behind an operation, one that ends in the middle of its vector, one with a
-/// value that isn't whole, and one that begins with the empty vector again.
+/// Texts in profile 2: one with a difference that changes nothing, after an operation, one that ends in the middle of its vector, one with
+/// a value that isn't whole, and one that begins again with the empty vector.
 const TEXTS: &str = r#"["world",[[1,[1],1,1,4,4,10]]]
 ["line",0,0,"[\"op2\",[1,2],[],[[\"m\",0]],\"a\",[\"a\",7]]\n[\"op2\",[2,2],[[3,0]],[[\"m\",0]],\"a\",[\"d\"]]\n"]
 ["line",0,0,"[\"op2\",[2,2],[[2,1"]
@@ -110,7 +110,7 @@ const TEXTS: &str = r#"["world",[[1,[1],1,1,4,4,10]]]
 ["line",0,0,"[\"op2\",[2,2],[[2,1]],[[\"m\",0]],\"a\",[\"d\"]]\n"]
 "#;
 
-/// The fault of a line within a text is no fault of the script: the step replies with it.
+/// The fault of a line within a text isn't a fault of the script: the step replies with it.
 #[test]
 fn faults_within_texts_are_replied(rt: HostRuntime) -> Result<(), Fail> {
     const REPLIES: &str = r#"["received",1,1,2,"E22"]
@@ -122,7 +122,7 @@ fn faults_within_texts_are_replied(rt: HostRuntime) -> Result<(), Fail> {
     Ok(())
 }
 
-/// What stands around a long text, its letter, and how often it is repeated.
+/// What surrounds a long text, its letter, and how many times it is repeated.
 type Long<'a> = (Around<'a>, &'a str, usize);
 
 /// A key of 256 bytes, and a text of 4,096.
@@ -163,14 +163,14 @@ fn questions_reply_a_line(rt: HostRuntime) -> Result<(), Fail> {
         r#"["ask",0,0,["conflicts",[1]]]"#,
         r#"["ask",0,0,["missing",[]]]"#,
         r#"["ask",0,0,["missing",[[1,1],[3,4611686018427387904]]]]"#,
-        // Of replicas that are no members.
+        // Of nonmembers.
         r#"["ask",0,0,["missing",[[2,1],[4294967294,1]]]]"#,
         r#"["ask",0,0,["vector"]]"#,
     ];
     reply_lines(&rt, rt.alloc(), LINES)
 }
 
-/// A script whose first line has a tab before it, a carriage return behind it, and white space around its parts.
+/// A script whose first line has a tab before it, a carriage return after it, and white space around its parts.
 const SPACED: &[&str] = &[
     "\t",
     r#"[ "world" , [ [ 1 , [ 1 ] , 1 , 1 , 4 , 4 , 10 ] ] ]"#,

@@ -31,7 +31,7 @@ fn deep(alloc: Global) -> Result<String, AllocError> {
     format!(in alloc; "{before}{keys}{between}{keys}{after}")
 }
 
-/// At a head no step, assign or delete is taken; an insert needs a list, and a path has at most 32 keys.
+/// At a head, no step, assign or delete is taken; an insert needs a list, and a path has at most 32 keys.
 #[test]
 fn refused_commands(rt: HostRuntime) -> Result<(), Fail> {
     const REPLIES: &str = r#"["ticket",1]
@@ -97,7 +97,7 @@ fn values_and_keys_at_their_limits(rt: HostRuntime) -> Result<(), Fail> {
 /// A first line of one of three replicas.
 const FIRST: &str = r#"["world",[[1,[1,2,3],1,1,8,8,100]]]"#;
 
-/// Values past those limits, and what is told of their line.
+/// Values past those limits, and what is reported of their line.
 const PAST: &[(&str, &str)] = &[
     ("9223372036854775808", "E21"),
     ("1.5", "E21"),

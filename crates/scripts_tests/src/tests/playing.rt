@@ -1,4 +1,4 @@
-//! Plays scripts, and asserts what they reply.
+//! Plays scripts, and asserts their replies.
 
 use scripts::replies_to;
 use std::alloc::{AllocError, Global};
@@ -31,7 +31,7 @@ pub fn joined(alloc: Global, parts: &[&str]) -> Result<String, AllocError> {
     Ok(script)
 }
 
-/// What is told of these bytes, which are no good script. A failure names them so.
+/// What is reported of these bytes, which aren't a good script. A failure names them by that.
 fn told_of(rt: &impl Abort, alloc: Global, bytes: &[u8], name: &str) -> Result<String, AllocError> {
     match replies_to(alloc, bytes) {
         Ok(_) => panic!(rt; "a script: {name}"),
@@ -39,7 +39,7 @@ fn told_of(rt: &impl Abort, alloc: Global, bytes: &[u8], name: &str) -> Result<S
     }
 }
 
-/// Asserts that these bytes have a bad line with this number, which is bad in this way. A failure names them so.
+/// Asserts that these bytes have a bad line with this number, which is bad in this way. A failure names them by that.
 pub fn is_refused(
     rt: &impl Abort,
     alloc: Global,
@@ -104,7 +104,7 @@ pub fn are_bad(
     Ok(())
 }
 
-/// What stands before a part of a line, and what after it.
+/// What comes before a part of a line, and what comes after it.
 pub type Around<'a> = (&'a str, &'a str);
 
 /// The line with this part.

@@ -1,5 +1,5 @@
-//! Readings of values, keys and conflicts, as they are printed. Those of items are among the replies, those of missing operations
-//! among the sessions.
+//! Readings of values, keys and conflicts, as they are printed. Those of items are tested with the replies, those of missing operations
+//! with the sessions.
 
 use super::replies::prints_line;
 use cursor::Tag;

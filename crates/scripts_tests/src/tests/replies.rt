@@ -36,7 +36,7 @@ pub fn prints_line(
     prints(rt, alloc, replies, text.as_str())
 }
 
-/// A reply without a vector and a reading.
+/// A reply without a vector or a reading.
 #[derive(Clone, Copy)]
 enum Says {
     Ticket(u64),
@@ -188,7 +188,7 @@ fn what_peers_sent(rt: HostRuntime) -> Result<(), Fail> {
 /// A hello's number and the pairs of its vector, and how it is printed.
 type Hello<'a> = (u64, &'a [Pair], &'a str);
 
-/// No counter, and the greatest of the replicas 1 and 9.
+/// No counter, and the greatest counters of the replicas 1 and 9.
 const HELLOS: &[Hello] = &[
     (
         0,

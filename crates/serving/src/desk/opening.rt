@@ -1,4 +1,4 @@
-//! A desk that goes on from a journal.
+//! A desk that resumes from a journal.
 
 ghost use Rattle.std.specs.Prelude.{◌≡◌, ℕ, [], length, false, IfOk};
 ghost use Rattle.session.specs.wire.Lines.{cut};
@@ -13,12 +13,12 @@ use std::alloc::Global;
 use store::{Fault, Journal, Shelf, Store, Unopened, is_begun, unfit, whole_len};
 
 impl<S: Store> Desk<S> {
-    /// A desk that goes on from a journal, as the replica of this number. Takes the whole lines; cuts the store behind them, and syncs it.
+    /// A desk that resumes from a journal, as the replica of this number. Takes the whole lines, cuts the store after them, and syncs it.
     /// Costs what receiving as many lines costs.
     ///
     /// # Errors
-    /// The store comes back with why: `Damaged` with the first line that doesn't fit, also one without a line feed that doesn't begin like
-    /// a line, and the store is as it was; `Store` if it can't be cut or synced; `Refused` with `NoMemory`.
+    /// The store is returned with the reason: `Damaged` with the first line that doesn't fit, also one without a line feed that doesn't
+    /// begin like a line, and the store is unchanged; `Store` if it can't be cut or synced; `Refused` with `NoMemory` if allocation fails.
     pub fn open(alloc: Global, own: ReplicaId, journal: Journal<S>) -> Result<Desk<S>, Unopened<S>>
         ensures own { IfOk result (λ d. d.replica.own ≡ own) }
         ensures brought { IfOk result (λ d. BringsBackLines [] (cut journal.bytes.items).lines d.replica.entries) }
@@ -43,7 +43,7 @@ impl<S: Store> Desk<S> {
     }
 }
 
-/// A session that goes on from the whole lines of these bytes, and how many bytes the lines have.
+/// A session that resumes from the whole lines of these bytes, and how many bytes the lines have.
 fn brought_back(alloc: Global, own: ReplicaId, bytes: &[u8]) -> Result<(Session, usize), Fault>
     ensures own { IfOk result (λ r. r.0.own ≡ own) }
     ensures brought { IfOk result (λ r. BringsBackLines [] (cut bytes.now).lines r.0.entries) }

@@ -1,4 +1,4 @@
-//! What is saved.
+//! Saving to the shelf.
 
 ghost use Rattle.std.specs.Prelude.{◌≡◌, ◌≢◌, ◌⊎◌, false, true, IfErr, OnOk};
 ghost use Rattle.store.specs.declared.fault.Fault.TheVariants.{MustStartAgain};
@@ -10,7 +10,7 @@ use std::alloc::Global;
 use store::{Fault, Store};
 
 impl<S: Store> Desk<S> {
-    /// Saves, and says that it is done, or that it isn't saved.
+    /// Saves, and responds that it is done, or that it isn't saved.
     pub(super) fn saved(&mut self, alloc: Global, done: Response) -> Response
         ensures { SaysSaved done self.old result self.new }
     {
@@ -24,10 +24,10 @@ impl<S: Store> Desk<S> {
         }
     }
 
-    /// Puts the entries that aren't on the shelf behind those that are.
+    /// Appends the entries that aren't on the shelf to it.
     ///
     /// # Errors
-    /// `Held` if memory was short for their lines; `MustStartAgain` and `Store` as `put` of the shelf.
+    /// `Held` if an allocation for their lines failed; `MustStartAgain` and `Store` as `put` of the shelf.
     fn save(&mut self, alloc: Global) -> Result<(), Fault>
         ensures ok { OnOk result ((self.new.replica ≡ self.old.replica) × IsSaved self.old self.new) }
         ensures err { IfErr result

@@ -11,14 +11,14 @@ const REQUESTS: &str = r#"["assign",["a"],1]
 ["save"]
 "#;
 
-/// What stands on the disk when the program starts: a line that was being written.
+/// What is on the disk when the program starts: a line that was being written.
 const TORN: &str = r#"["own",[1,7],["assi"#;
 
 /// More calls than the program makes of its disk.
 const CALLS: u64 = 14;
 
-/// Each call of the disk fails in turn, alone or with all after it. Then the power goes: of what wasn't synced nothing stays, or all, or
-/// the first bytes. What a reply called saved is there at the next start all the same.
+/// Each call of the disk fails in turn, alone or with all after it. Then the power goes: of what wasn't synced, nothing is left, or
+/// everything, or the first bytes. Whatever a reply called saved is there at the next start all the same.
 #[test]
 fn what_is_called_saved_survives(rt: HostRuntime) -> Result<(), Fail> {
     for call in 1..=CALLS {
@@ -47,7 +47,7 @@ fn survives<R: Wait + Abort>(rt: &R, alloc: Global, breaks: Breaks) -> Result<()
     Ok(())
 }
 
-/// How many operations the replies call saved: each reply that calls something made or received calls all before it saved.
+/// How many operations the replies call saved: each reply that calls something made or received calls everything before it saved.
 fn saved_by<R: Abort>(rt: &R, replies: &str, ended: Result<(), Stop>) -> usize {
     let mut saved = 0;
     let mut there: usize = 0;
@@ -65,7 +65,7 @@ fn saved_by<R: Abort>(rt: &R, replies: &str, ended: Result<(), Stop>) -> usize {
     saved
 }
 
-/// How many operations the first line says that there are.
+/// How many operations there are, according to the first line.
 fn length_in(replies: &str) -> usize {
     let Some(line) = replies.lines().next() else {
         return 0;

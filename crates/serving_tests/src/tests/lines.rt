@@ -10,7 +10,7 @@ const REQUESTS: &str = r#"["assign",["a"],1]
 ["delete",["a"]]
 "#;
 
-/// What each is replied, behind what is said first.
+/// The reply to each, after the first line.
 const REPLIES: [&str; 4] = [
     "[\"ready\",7,0]\n",
     "[\"made\",[1,7],0]\n",
@@ -20,7 +20,7 @@ const REPLIES: [&str; 4] = [
 
 const BAD: &str = "[\"refused\",\"E22\"]\n";
 
-/// The input ends behind each of its bytes: each whole line has its reply, and what is behind them is a bad line.
+/// The input ends after each of its bytes: each whole line has its reply, and what is after them is a bad line.
 #[test]
 fn input_is_cut_at_each_byte(rt: HostRuntime) -> Result<(), Fail> {
     for end in 0..=REQUESTS.len() {
@@ -42,7 +42,7 @@ fn input_is_cut_at_each_byte(rt: HostRuntime) -> Result<(), Fail> {
     Ok(())
 }
 
-/// The lines of this input where a line has at most three bytes.
+/// The lines of this input, if a line may have at most three bytes.
 const FOUND: [(Found, &str); 6] = [
     (Found::Line, "abc"),
     (Found::TooLong, ""),
@@ -52,7 +52,7 @@ const FOUND: [(Found, &str); 6] = [
     (Found::End, ""),
 ];
 
-/// A line that is too long is passed over, and the next one is found.
+/// A line that is too long is skipped, and the next one is found.
 #[test]
 fn long_lines_are_passed_over(rt: HostRuntime) -> Result<(), Fail> {
     let mut input = "abc\nabcd\n\nabcdefghi\nxyz".as_bytes();

@@ -1,4 +1,4 @@
-//! What a program asks for, and what it is answered.
+//! Requests to a program, and its replies.
 
 use super::*;
 use std::process::Abort;
@@ -6,7 +6,7 @@ use std::process::Abort;
 /// A request, and the reply to it.
 type Turn<'a> = (&'a str, &'a str);
 
-/// What number 7 is asked for, on an empty disk.
+/// The requests to number 7, on an empty disk.
 const TALK: &[Turn] = &[
     (r#"["status"]"#, r#"["status",7,0,0]"#),
     (r#"["assign",["title"],"Shopping"]"#, r#"["made",[1,7],0]"#),
@@ -50,7 +50,7 @@ const TALK: &[Turn] = &[
     ("", r#"["refused","E22"]"#),
 ];
 
-/// What stands on the disk then.
+/// What is then on the disk.
 const KEPT: &str = r#"["own",[1,7],["assign",["title"],"Shopping"]]
 ["own",[2,7],["assign",["list"],[]]]
 ["own",[3,7],["insert",["list",0],"milk"]]
@@ -59,7 +59,7 @@ const KEPT: &str = r#"["own",[1,7],["assign",["title"],"Shopping"]]
 ["op",[6,8],[[7,5]],[["m",0]],"by",["a","Ann"]]
 "#;
 
-/// The next start is of six operations, and goes on behind them.
+/// The next start has six operations, and goes on after them.
 const NEXT: &[Turn] = &[
     (
         r#"["glance",[],9,99]"#,
@@ -68,7 +68,7 @@ const NEXT: &[Turn] = &[
     (r#"["delete",["by"]]"#, r#"["made",[7,7],6]"#),
 ];
 
-/// Asserts that these requests have these replies, behind the line that says how many operations there are.
+/// Asserts that these requests have these replies, after the line that says how many operations there are.
 fn assert_talk<R: Wait + Abort>(
     rt: &R,
     alloc: Global,

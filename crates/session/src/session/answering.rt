@@ -1,4 +1,4 @@
-//! What a session says to peers, and to the store that keeps its history.
+//! What a session sends to peers, and to the store that keeps its history.
 
 ghost use Rattle.std.specs.Prelude.{◌≡◌, ◌⊎◌, ◌+◌, ◌<◌, ◌≤◌, [], Ok, Err, IfErr, IfOk, IsFalse, IsTrue, map, take};
 ghost use Rattle.std.specs.List.{All};
@@ -21,7 +21,7 @@ use records::{BundleWriter, LINE_END, lines_of, read_vector};
 use replica::{Document, Op, Shared};
 use std::alloc::{AllocError, Global};
 
-/// How many bytes an answer has at most, unless its first line alone has more.
+/// The most bytes of an answer, unless its first line alone has more.
 const MOST_BYTES: usize = 4_194_304;
 
 /// An answer to a hello.
@@ -31,8 +31,9 @@ pub struct Answered {
     pub lines: Vec<u8>,
     /// Whether it lacks more.
     pub has_more: bool,
-    /// Whether the hello names more operations of the own number than are known here. Then this replica, or another one of its number, has
-    /// handed out what its journal lost: let it write no more before an exchange has brought that, or give it a new number.
+    /// Whether the hello names more operations of this session's own number than are known here. If so, this replica, or another one with
+    /// its number, has handed out operations that its journal lost: it must write no more until an exchange has brought them back, or it
+    /// needs a new number.
     pub is_beyond: bool,
 }
 
@@ -65,13 +66,13 @@ impl Session {
         self.answer_within(alloc, hello, stored, MOST_BYTES)
     }
 
-    /// The answer to a hello, a line of which the line feed is white space: the lines, each with its line feed, of the operations that its
-    /// vector doesn't cover, of those among the first `stored` entries, the oldest first; as many as fit into `most` bytes, and at least
-    /// one if there is one. A peer reads the same operations, and says hello again where there are more. Takes time and memory in
-    /// proportion to what is lacked and to the text.
+    /// The answer to a hello, a line whose line feed counts as white space: the lines, each with its line feed, of those operations among
+    /// the first `stored` entries that its vector doesn't cover, the oldest first; as many as fit into `most` bytes, and at least one if
+    /// there is one. A peer reads the same operations, and says hello again if there are more. Takes time and memory in proportion to what
+    /// is missing and to the text.
     ///
     /// # Errors
-    /// `BadLine` if the hello is no such line, as `read_vector` has it; `NoMemory` if allocation fails.
+    /// `BadLine` if the hello isn't such a line, as in `read_vector`; `NoMemory` if allocation fails.
     pub fn answer_within(
         &self,
         alloc: Global,
@@ -94,7 +95,7 @@ impl Session {
     }
 
     /// The lines of a journal of the entries from a position on, each with its line feed: an own entry as `["own",ID,COMMAND]`, one that a
-    /// peer sent as its line in the first profile. `replay` reads each by itself. In time and memory in proportion to how many they are.
+    /// peer sent as its line in the first profile. `replay` reads each line by itself. Takes time and memory in proportion to their number.
     ///
     /// # Errors
     /// `AllocError` if allocation fails.
@@ -113,8 +114,8 @@ fn is_beyond(document: &Document, own: ReplicaId, vector: &NamedVector) -> bool
     counter_of(document.applied().ids(), own) < vector.at(own)
 }
 
-/// The first lines of the bundle of these operations: as many as fit into so many bytes, and at least one if there is one. A peer reads
-/// the same first operations.
+/// The first lines of the bundle of these operations: as many as fit into `most` bytes, and at least one if there is one. A peer reads the
+/// same first operations.
 ///
 /// # Errors
 /// `AllocError` if allocation fails.
@@ -140,7 +141,7 @@ fn first_lines(alloc: Global, ops: &[Shared<Op>], most: usize) -> Result<FirstLi
     })
 }
 
-/// Whether a line of so many bytes, with its line feed, has no room behind so many lines and bytes; the first line always has.
+/// Whether a line of this many bytes, with its line feed, doesn't fit after this many lines and bytes; the first line always fits.
 fn is_behind(count: usize, bytes: usize, line: usize, most: usize) -> bool
     ensures yes { IsTrue result → (0 < count) × (most < bytes + (line + 1)) }
     ensures no { IsFalse result → (count ≡ 0) ⊎ (bytes + (line + 1) ≤ most) }

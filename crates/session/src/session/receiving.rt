@@ -1,4 +1,4 @@
-//! What a session receives of a peer.
+//! What a session receives from a peer.
 
 ghost use Rattle.std.specs.Prelude.{⊤, ◌≡◌, ◌≢◌, ◌⊎◌, ◌+◌, ◌<◌, ◌^◌, [], Ok, Err, Some, IfErr, IfOk, MatchOption, length, take};
 ghost use Rattle.ids.specs.declared.refusal.Refusal.TheVariants.{BadLine, NoMemory};
@@ -18,7 +18,7 @@ use std::alloc::Global;
 /// The operations of a receipt that the rules refused.
 #[derive(Clone, Copy, Debug, PartialEq, Eq)]
 pub struct Refused {
-    /// How many they are, at least 1.
+    /// How many there are, at least 1.
     pub count: u64,
     /// The line of the first one, counted from 1.
     pub first_line: u64,
@@ -33,19 +33,19 @@ pub struct Received {
     pub taken: u64,
     /// Those that were refused, if there are any.
     pub refused: Option<Refused>,
-    /// The line, counted from 1, at which it stopped, and why; `None` if all lines were taken.
+    /// The line, counted from 1, at which the receipt stopped, and why; `None` if all lines were taken.
     pub stopped: Option<(u64, Refusal)>,
 }
 
 impl Session {
-    /// Receives a whole bundle, line by line, of lines in either profile: each operation is delivered, and what is ready then is applied,
-    /// or dropped if it turns out to be unlawful. What was ready before, where memory ran out in the last receipt, goes first, also of an
-    /// empty bundle. The bytes may be of any origin; each line is read whole before it is judged.
+    /// Receives a whole bundle line by line, of lines in either profile: each operation is delivered, and what is then ready is applied, or
+    /// dropped if it turns out to be unlawful. If memory ran out in the last receipt, what was ready then goes first, even before an empty
+    /// bundle. The bytes may come from anywhere; each line is read whole before it is judged.
     ///
-    /// An operation that the rules refuse changes nothing, and the next line is taken. It stops at the first line that is bad: `BadLine`,
-    /// also for bytes after the last line feed, `TooDeep`, `KeyTooLong`, `TextTooLong` or `NotWhole`. It stops with `NoMemory` where
-    /// allocation fails: for the line itself, which isn't taken; or behind a line that was taken, while what was ready was applied, and
-    /// then the next receipt goes on with that. Say hello again to go on after a stop.
+    /// An operation that the rules refuse changes nothing, and the next line is taken. The receipt stops at the first bad line: `BadLine`,
+    /// also for bytes after the last line feed, `TooDeep`, `KeyTooLong`, `TextTooLong` or `NotWhole`. It stops with `NoMemory` if
+    /// allocation fails: either for the line itself, which then isn't taken, or after a line that was taken, while applying what was ready,
+    /// and then the next receipt goes on with that. To go on after a stop, say hello again.
     pub fn receive(&mut self, alloc: Global, bundle: &[u8]) -> Received
         ensures replica { DrainsTo (delivered self.old (take result.taken (readable [] bundle.now).operations)) (is_short result.stopped)
             self.new }
@@ -54,7 +54,7 @@ impl Session {
         ensures stopped { MatchOption result.stopped (EndsBehind (readable [] bundle.now) result.taken)
             (λ stop. (stop.0 ≡ result.taken + 1) × StopsBehind (readable [] bundle.now) result.taken stop.1) }
     {
-        // So the number behind that of the last line fits too.
+        // So the number after that of the last line fits too.
         prove!(bundle.len() < usize::MAX);
         let mut received = Received {
             taken: 0,
@@ -123,7 +123,7 @@ impl Received {
     }
 }
 
-/// These refused ones and one more.
+/// The summary of the refused operations with one more.
 fn one_more(refused: Option<Refused>, line: u64, why: Refusal) -> Refused
     requires fits { MatchOption refused ⊤ (λ r. r.count + 1 < 2 ^ 64) }
     ensures { Some result ≡ with_refusal refused line (Some why) }

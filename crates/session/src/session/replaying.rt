@@ -1,4 +1,4 @@
-//! A session that goes on from its journal.
+//! A session that resumes from its journal.
 
 ghost use Rattle.std.specs.Prelude.{◌≡◌, ◌+◌, [], ◌∷◌, IfErr, IfSome, IsFalse, List, None, OnErr, OnOk, length, map, take};
 ghost use Rattle.semantics.specs.Entries.{Entry as TheEntry};
@@ -16,11 +16,11 @@ use replica::{Command, Op, Shared};
 use std::alloc::Global;
 
 impl Session {
-    /// Takes the lines of a journal, one after the other, and stops at the first that doesn't fit: each own command is made anew, and must
+    /// Takes the lines of a journal, one after the other, and stops at the first that doesn't fit: each own command is made again, and must
     /// make the id that its line says, and each operation of a peer must be applied at once. After this the history has an entry for each
-    /// line that was taken. A line that is refused by the rules, or of another id, has changed nothing; after `NotApplied` its operation
-    /// may wait. After `NotAlone` (more was ready than this line), and where allocation failed (`NoMemory`), its entry may stand all the
-    /// same: begin anew with a new session. A journal may come in pieces, one after the other.
+    /// line that was taken. A line that is refused by the rules, or that made another id, has changed nothing; after `NotApplied` its
+    /// operation may wait. After `NotAlone` (more was ready than this line), and if allocation failed (`NoMemory`), its entry may be in the
+    /// history all the same: start over with a new session. A journal may be given in pieces, one after the other.
     pub fn replay(&mut self, alloc: Global, journal: &[u8]) -> Replayed
         ensures taken { (G : List TheEntry)
             × BringsBackLines self.old.entries (take result.entries (cut journal.now).lines) G
@@ -52,7 +52,7 @@ impl Session {
         replayed
     }
 
-    /// Brings a line back.
+    /// Replays a line.
     fn bring_back(&mut self, alloc: Global, line: &[u8]) -> Result<(), Unfit>
         ensures ok { OnOk result (BringsBackLines self.old.entries (line.now ∷ []) self.new.entries) }
         ensures grows { BeginsWith self.new.entries self.old.entries }
@@ -65,7 +65,7 @@ impl Session {
         }
     }
 
-    /// Makes an operation of a command anew, and appends it if it has this id.
+    /// Makes an operation of a command again, and appends it if it has this id.
     fn remake(&mut self, alloc: Global, id: OpId, command: Shared<Command>) -> Result<(), Unfit>
         ensures ok { OnOk result (HasRecord self.old.entries (Commanded id (command_of command)) self.new.entries) }
         ensures same { OnErr result (self.new ≡ self.old) }
@@ -92,7 +92,7 @@ impl Session {
         self.check_behind(alloc, position, &Recorded::Received(op))
     }
 
-    /// Delivers an operation of a peer, and applies what is ready.
+    /// Delivers an operation of a peer, and applies what is then ready.
     fn receive_one(&mut self, alloc: Global, op: Shared<Op>) -> Result<(), Unfit>
         ensures grows { BeginsWith self.new.entries self.old.entries }
         ensures own { self.new.own ≡ self.old.own }
@@ -103,7 +103,7 @@ impl Session {
         Ok(())
     }
 
-    /// Tests that the entries from a position on are the one that a line says.
+    /// Tests that there is one entry from a position on, and that it is what a line records.
     fn check_behind(&self, alloc: Global, position: usize, said: &Recorded) -> Result<(), Unfit>
         ensures ok { OnOk result (map recorded (entries_from position self.now.entries) ≡ record_meant said.now ∷ []) }
         ensures none { IfErr result (λ why. IsFalse (may_stand why) → entries_from position self.now.entries ≡ []) }

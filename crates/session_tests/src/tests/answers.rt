@@ -13,11 +13,11 @@ const TWO: &str = r#"["op2",[1,1],[],[["m",0]],"a",["a","A"]]
 ["op2",[2,1],[[1,1]],[["m",0]],"b",["a","B"]]
 "#;
 
-/// The last one beside the empty vector.
+/// The last one, relative to the empty vector.
 const LAST: &str = r#"["op2",[3,1],[[1,2]],[["m",0]],"c",["a","C"]]
 "#;
 
-/// A bound that cuts the answer: as many lines as fit, and one where none does. The next hello gets what follows.
+/// A bound that cuts the answer: as many lines as fit, and one if none does. The next hello gets what follows.
 #[test]
 fn a_long_answer_is_cut(rt: HostRuntime) -> Result<(), Fail> {
     on_new(
@@ -55,7 +55,7 @@ fn only_what_is_stored_is_sent(rt: HostRuntime) -> Result<(), Fail> {
     )
 }
 
-/// A hello with more of the own number than is known here, and one with more of others alone.
+/// A hello with more operations of the own number than are known here, and one with more of other numbers alone.
 #[test]
 fn a_number_that_lost_something_is_told(rt: HostRuntime) -> Result<(), Fail> {
     on_new(

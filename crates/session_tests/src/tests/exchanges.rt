@@ -1,4 +1,4 @@
-//! Two sessions that write apart, and exchange.
+//! Two sessions that write concurrently, and exchange.
 
 use super::playing::Row::{Denied, Hello, Length, Shows, Write};
 use super::playing::{Row, play};
@@ -17,17 +17,17 @@ const FIRST: &[Row] = &[
     Shows(r#"{"l":["x"],"k":1}"#),
 ];
 
-/// Replica 2 writes the key apart.
+/// Replica 2 writes the key concurrently.
 const SECOND: &[Row] = &[Write(r#"["assign",["k"],2]"#, (1, 2)), Shows(r#"{"k":2}"#)];
 
-/// What both show then: at the key there are two values, which neither had seen of the other.
+/// What both then show: the key has two values, neither of whose writers had seen the other.
 const BOTH: &[Row] = &[
     Length(4),
     Hello(r#"["hello",[[1,3],[2,1]]]"#),
     Shows(r#"{"l":["x"],"k":{"?":"conflict","values":[2,1]}}"#),
 ];
 
-/// Replica 2 writes over both.
+/// Replica 2 overwrites both.
 const OVER: &[Row] = &[
     Write(r#"["assign",["k"],3]"#, (4, 2)),
     Write(r#"["delete",["l",1]]"#, (5, 2)),
@@ -72,7 +72,7 @@ fn exchange(
     send(rt, alloc, two, one)
 }
 
-/// A session sends another one all that it lacks.
+/// A session sends another one everything that it lacks.
 fn send(rt: &impl Abort, alloc: Global, from: &Session, to: &mut Session) -> Result<(), Fail> {
     let hello = write_vector(alloc, &to.hello(alloc)?)?;
     let answered = from.answer(alloc, hello.as_slice(), from.len())?;
@@ -82,7 +82,7 @@ fn send(rt: &impl Abort, alloc: Global, from: &Session, to: &mut Session) -> Res
     Ok(())
 }
 
-/// The number 0 is none.
+/// The number 0 isn't a number of a replica.
 #[test]
 fn no_session_has_the_number_0(rt: HostRuntime) -> Result<(), Fail> {
     match Session::open(rt.alloc(), 0) {

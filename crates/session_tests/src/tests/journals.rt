@@ -1,11 +1,11 @@
-//! Sessions that go on from their journals.
+//! Sessions that resume from their journals.
 
 use super::playing::Row::{Answer, Journal, Length, Receive, Replay, Shows, Write};
 use super::playing::Why::{NotApplied, OtherId};
 use super::playing::on_new;
 use super::*;
 
-/// Two own commands, an operation of a peer that writes behind them, and an own command about that.
+/// Two own commands, an operation of a peer that inserts after them, and an own command that depends on it.
 const FOUR: &str = r#"["own",[1,1],["assign",["l"],[]]]
 ["own",[2,1],["insert",["l",0],"x"]]
 ["op",[3,2],[[1,2]],[["m",0],["l","l"]],[2,1],["i","y"]]
@@ -60,7 +60,7 @@ fn a_history_comes_back(rt: HostRuntime) -> Result<(), Fail> {
     )
 }
 
-/// A command makes no other id than the next one; what stands is the session of the lines before it.
+/// A command makes no other id than the next one; the session has the lines before it.
 #[test]
 fn another_id_stops_it(rt: HostRuntime) -> Result<(), Fail> {
     const SKIPS: &str = r#"["own",[1,1],["assign",["l"],[]]]
@@ -78,7 +78,7 @@ fn another_id_stops_it(rt: HostRuntime) -> Result<(), Fail> {
     )
 }
 
-/// An operation that depends on one that stands in no line before it, one that is known, a refused command, and a cut.
+/// An operation that depends on one that no earlier line has, one that is known, a refused command, and a cut.
 #[test]
 fn what_does_not_fit_stops_it(rt: HostRuntime) -> Result<(), Fail> {
     const EARLY: &str = r#"["op",[2,2],[[3,1]],[["m",0]],"a",["a",2]]

@@ -1,4 +1,4 @@
-//! What is done with two sessions, as a table of turns, and what plays it.
+//! What a test does with two sessions, as a table of turns, and what plays them.
 
 use super::*;
 use fixtures::{Pair, pair_of};
@@ -18,7 +18,7 @@ pub enum Why {
     NotAlone,
 }
 
-/// How a journal was brought back: how many lines and bytes, and the stop.
+/// How far a journal was replayed: how many lines and bytes, and the stop.
 pub type Taken = (u64, usize, Option<(u64, Why)>);
 
 /// How many lines were received; how many were refused, the line of the first and why; and the stop.
@@ -27,14 +27,14 @@ pub type Got = (u64, Option<(u64, u64, Refusal)>, Option<(u64, Refusal)>);
 /// One turn of a session, and its answer.
 #[derive(Clone, Copy)]
 pub enum Row {
-    /// It writes what this command says: this id was made.
+    /// It writes this command: this id was made.
     Write(&'static str, Pair),
     /// It is refused this command.
     Denied(&'static str, Refusal),
     /// It receives this text.
     Receive(&'static str, Got),
-    /// It answers this hello, of the first entries, within so many bytes: the lines, whether there are more, and whether the hello names
-    /// more of the own number.
+    /// It answers this hello, from the first entries, within this many bytes: the lines, whether there are more, and whether the hello
+    /// names more of the own number.
     Answer(&'static str, usize, usize, &'static str, bool, bool),
     /// Its hello.
     Hello(&'static str),
@@ -42,7 +42,7 @@ pub enum Row {
     Shows(&'static str),
     /// The lines of the entries from this position on.
     Journal(usize, &'static str),
-    /// It brings this journal back.
+    /// It replays this journal.
     Replay(&'static str, Taken),
     /// How many entries it has.
     Length(usize),
@@ -128,7 +128,7 @@ fn write(
     Ok(())
 }
 
-/// Asserts that the command of this JSON is refused so.
+/// Asserts that the command of this JSON is refused for this reason.
 fn deny(
     rt: &impl Abort,
     alloc: Global,

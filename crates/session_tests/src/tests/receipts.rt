@@ -7,7 +7,7 @@ use session::Session;
 use std::alloc::Global;
 use std::process::Abort;
 
-/// Replica 2 makes a list, and puts two items into it.
+/// Replica 2 makes a list, and inserts two items.
 const THREE: &str = r#"["op2",[1,2],[],[["m",0]],"l",["a",[]]]
 ["op2",[2,2],[[2,1]],[["m",0],["l","l"]],1,["i","x"]]
 ["op2",[3,2],[[2,2]],[["m",0],["l","l"]],[2,2],["i","y"]]
@@ -35,7 +35,7 @@ fn an_operation_waits(rt: HostRuntime) -> Result<(), Fail> {
     )
 }
 
-/// The second operation skips a counter, and the third is the session's own number: both are refused, and the others are applied.
+/// The second operation skips a counter, and the third has the session's own number: both are refused, and the others are applied.
 #[test]
 fn what_is_refused_is_told(rt: HostRuntime) -> Result<(), Fail> {
     const FOUR: &str = r#"["op",[1,2],[],[["m",0]],"a",["a",1]]
@@ -56,7 +56,7 @@ fn what_is_refused_is_told(rt: HostRuntime) -> Result<(), Fail> {
     )
 }
 
-/// A line of profile 1, one that is none, and one more, which isn't looked at.
+/// A line of profile 1, one that isn't a line of either, and one more, which isn't looked at.
 #[test]
 fn a_bad_line_stops_it(rt: HostRuntime) -> Result<(), Fail> {
     const BAD: &str = r#"["op",[1,2],[],[["m",0]],"a",["a",1]]
@@ -74,7 +74,7 @@ fn a_bad_line_stops_it(rt: HostRuntime) -> Result<(), Fail> {
     )
 }
 
-/// A cut within a line stops there, and what is whole before it is taken.
+/// A cut within a line stops there, and the whole lines before it are taken.
 #[test]
 fn a_cut_stops_behind_the_last_whole_line(rt: HostRuntime) -> Result<(), Fail> {
     assert_eq!(rt; THREE.len(), 152);

@@ -1,7 +1,6 @@
-//! A call whose allocation is refused is called again, and answers then as ever.
+//! A call whose allocation is refused is called again, and then answers as usual.
 //!
-//! To be run with each allocation refused in turn (`tests/refused_memory.sh`): each run passes. With none refused, nothing is called
-//! again.
+//! Run with each allocation refused in turn (`tests/refused_memory.sh`): each run passes. If none is refused, nothing is called again.
 
 use super::*;
 use replica::Command;
@@ -11,13 +10,13 @@ use std::alloc::Global;
 use std::process::Abort;
 use wire::json_of;
 
-/// The last operation waits for the first, and the second one's counter skips.
+/// The last operation waits for the first, and the second one skips a counter.
 const THREE: &str = r#"["op",[2,2],[[2,1]],[["m",0],["l","l"]],1,["i","x"]]
 ["op",[7,3],[],[["m",0]],"b",["a",2]]
 ["op",[1,2],[],[["m",0]],"l",["a",[]]]
 "#;
 
-/// What is received of a receipt that ran out of memory is what any other receipt leaves, once it is received again.
+/// A receipt that ran out of memory leaves what any other receipt leaves, once the same bundle is received again.
 #[test]
 fn a_receipt_goes_on(rt: HostRuntime) -> Result<(), Fail> {
     let mut session = open(rt.alloc())?;

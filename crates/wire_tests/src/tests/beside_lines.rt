@@ -1,4 +1,4 @@
-//! Lines of profile 2, each beside the vector of the operation before, and of both profiles mixed.
+//! Lines of profile 2, each relative to the vector of the operation before, and of both profiles mixed.
 
 use super::canonical_lines::{BYTES, changed, spaced};
 use super::{Around, LINES, is_op, list_of_five, with_part};
@@ -77,7 +77,7 @@ pub(super) const ONE_KEY: &[Row] = &[
     ),
 ];
 
-/// A replica that is named no more.
+/// A replica that is no longer named.
 const LOST: &[Row] = &[
     (
         r#"["op2",[2,1],[[1,1]],[["m",0]],"key",["a","B"]]"#,
@@ -123,7 +123,7 @@ pub(super) const VECTORS: &[Row] = &[
     ),
 ];
 
-/// Lines of both profiles, and some that are refused and leave the base.
+/// Lines of both profiles, and some that are refused and leave the base unchanged.
 const MIXED: &[Row] = &[
     (
         r#"["op",[2,1],[[1,1]],[],0,["d"]]"#,
@@ -180,7 +180,7 @@ fn lines_are_written_beside_the_one_before(rt: HostRuntime) -> Result<(), Fail> 
     Ok(())
 }
 
-/// Where the five lines end in their bundle of profile 2.
+/// The ends of the five lines in their bundle of profile 2.
 pub(super) const ENDS: [usize; 5] = [31, 83, 147, 213, 281];
 
 #[test]
@@ -199,13 +199,13 @@ fn the_five_lines_in_profile_2(rt: HostRuntime) -> Result<(), Fail> {
     Ok(())
 }
 
-/// The line that all deltas of the next test stand behind.
+/// The line after which all deltas of the next test come.
 const BASE: &str = r#"["op2",[6,2],[[1,1],[3,5]],[],0,["d"]]"#;
 
-/// What stands around a delta.
+/// What surrounds a delta.
 pub(super) const DELTA: Around = (r#"["op2",[9,2],"#, r#",[],0,["d"]]"#);
 
-/// Deltas that are refused beside that line: of another form, not rising, and equal to the base, also with 0 for what it lacks.
+/// Deltas that are refused after that line: of another form, out of ascending order, or equal to the base, also with 0 for what it lacks.
 const DELTAS: &[&str] = &[
     "{}",
     "1",
@@ -239,7 +239,7 @@ fn reader_behind(alloc: Global) -> Result<BundleReader, Refusal> {
     Ok(reader)
 }
 
-/// Lines that are read at once beside that line, and as any JSON after a space.
+/// Lines that are read directly after that line, and as any JSON if preceded by a space.
 const ALIKE: &[&str] = &[
     r#"["op2",[8,2],[[2,7]],[],0,["d"]]"#,
     r#"["op2",[9,4],[[1,0],[3,6],[9,1]],[["l",0]],[3,1],["i","\né"]]"#,
@@ -247,7 +247,7 @@ const ALIKE: &[&str] = &[
     r#"["op",[2,2],[[3,5]],[["m",0]],"a",["a",true]]"#,
 ];
 
-/// Asserts that the line is read there as it is after a space.
+/// Asserts that the line is read there as it is when preceded by a space.
 fn is_read_alike(rt: &impl Abort, alloc: Global, line: &[u8]) -> Result<(), Refusal> {
     let spaced = spaced(alloc, line)?;
     let mut reader = reader_behind(alloc)?;
@@ -263,7 +263,7 @@ fn is_read_alike(rt: &impl Abort, alloc: Global, line: &[u8]) -> Result<(), Refu
     Ok(())
 }
 
-/// Asserts it of the line, of all that it begins with, and of what it is with one other byte.
+/// Asserts this of the line, of each prefix of it, and of the line with one byte changed.
 fn are_read_alike(rt: &impl Abort, alloc: Global, line: &[u8]) -> Result<(), Refusal> {
     for index in 0..line.len() {
         is_read_alike(rt, alloc, &line[..index])?;
@@ -283,7 +283,7 @@ fn a_space_in_front_changes_nothing(rt: HostRuntime) -> Result<(), Fail> {
     Ok(())
 }
 
-/// Asserts that the line is refused beside that line, also as any JSON, and that the reader is left as it was.
+/// Asserts that the line is refused after that line, also as any JSON, and that the reader is left as it was.
 fn is_refused_beside(
     rt: &impl Abort,
     alloc: Global,
@@ -307,7 +307,7 @@ fn deltas_that_are_refused(rt: HostRuntime) -> Result<(), Fail> {
     Ok(())
 }
 
-/// Lines with two faults, of which the first decides: the text, the word, the id, the delta, the path, its keys, the place, the mutation.
+/// Lines with two faults, the first of which decides: the text, the word, the id, the delta, the path, its keys, the place, the mutation.
 const TWO_FAULTS: &[(&str, Refusal)] = &[
     (
         r#"["op2",[9,2],[[2,7]],[["m",1]],"a",["a",1.5]"#,
@@ -347,7 +347,7 @@ fn the_first_fault_decides(rt: HostRuntime) -> Result<(), Fail> {
     Ok(())
 }
 
-/// What stands around a part, the part, how often it is repeated, and why the line is refused.
+/// What surrounds a part, the part, how many times it is repeated, and why the line is refused.
 type Long<'a> = (Around<'a>, &'a str, usize, Refusal);
 
 /// Lines that are too long, the delta's fault before them.
@@ -394,7 +394,7 @@ fn lines_that_are_too_long(rt: HostRuntime) -> Result<(), Fail> {
     Ok(())
 }
 
-/// A line of profile 2 is none for `read_op`.
+/// A line of profile 2 isn't one for `read_op`.
 #[test]
 fn a_line_alone_has_its_whole_vector(rt: HostRuntime) {
     for (line, _) in VECTORS {

@@ -66,7 +66,7 @@ fn are_five(rt: &impl Abort, alloc: Global, text: &str, written: &str) -> Result
     are_written(rt, alloc, ops.as_slice(), written)
 }
 
-/// A bundle in profile 1 is read, and written anew in profile 2.
+/// A bundle in profile 1 is read, and written again in profile 2.
 #[test]
 fn bundles_with_whole_vectors_are_read(rt: HostRuntime) -> Result<(), Fail> {
     let text = text_of(rt.alloc(), &LINES)?;
@@ -76,7 +76,7 @@ fn bundles_with_whole_vectors_are_read(rt: HostRuntime) -> Result<(), Fail> {
     Ok(())
 }
 
-/// The lines of these rows, in profile 1 where the row's bit is set, the first row's the lowest bit.
+/// The lines of these rows, in profile 1 if the row's bit is set; the first row has the lowest bit.
 fn mixture(
     alloc: Global,
     rows: &[beside_lines::Row],
@@ -125,7 +125,7 @@ fn is_mixture(
     are_written(rt, alloc, ops.as_slice(), written.as_str())
 }
 
-/// Seven lines whose vectors grow, shrink and stay are read as the same operations whichever of them are of profile 1.
+/// Seven lines whose vectors grow, shrink and stay are read as the same operations, whichever of them are in profile 1.
 #[test]
 fn bundles_of_both_profiles_are_read(rt: HostRuntime) -> Result<(), Fail> {
     assert_eq!(rt; VECTORS.len(), 7);
@@ -179,7 +179,7 @@ fn is_read(
     Ok(())
 }
 
-/// Where the lines of profile 1 end in their text.
+/// The ends of the lines of profile 1 in their text.
 const ENDS: [usize; 5] = [30, 81, 144, 209, 276];
 
 /// Asserts that the text is whole after each of these ends, and at no other byte.
@@ -226,7 +226,7 @@ const OTHER: &str = r#"["op",[1,3],[],[],0,["d"]]"#;
 
 const FLOAT: &str = r#"["op",[1,1],[],[],0,["a",1.5]]"#;
 
-/// It names one replica more.
+/// It names one more replica.
 const NAMES: &str = r#"["op2",[2,1],[[1,1]],[],0,["d"]]"#;
 
 const STOPPED: &[Row] = &[
@@ -271,7 +271,7 @@ fn the_first_bad_line_decides(rt: HostRuntime) -> Result<(), Fail> {
     Ok(())
 }
 
-/// A line, and what is read from it, as a line of profile 1: behind others whose last vector is `[[1,1]]`, and in a text of its own.
+/// A line, and what is read from it, as a line of profile 1: after others whose last vector is `[[1,1]]`, and in a text of its own.
 type Next<'a> = (&'a str, Result<&'a str, Refusal>, Result<&'a str, Refusal>);
 
 const NEXT: &[Next] = &[
@@ -315,7 +315,7 @@ fn ends_with(
     }
 }
 
-/// Asserts what the last line of a text is read as, behind so many others, as lines and as a bundle.
+/// Asserts how the last line of a text is read after this many others, as lines and as a bundle.
 fn is_last(
     rt: &impl Abort,
     alloc: Global,
@@ -334,8 +334,8 @@ fn is_last(
     ends_with(rt, alloc, ops.as_slice(), whole)
 }
 
-/// Asserts that the line is read beside the last of the others where it stands behind them, and beside the empty vector in a text of its
-/// own that is read after them.
+/// Asserts that the line is read relative to the last of the others if it comes after them, and relative to the empty vector in a text of
+/// its own that is read after them.
 fn begins_anew(rt: &impl Abort, alloc: Global, others: &str, row: &Next) -> Result<(), Refusal> {
     let (line, behind, alone) = *row;
     is_read(rt, alloc, others.as_bytes(), 3, None)?;

@@ -1,4 +1,5 @@
-//! A line that is as it would be written is read at once, and any other as JSON, as it is after a space. Both ways give the same.
+//! A line in the form in which it would be written is read directly, and any other as JSON, such as the same line after a space. Both ways
+//! give the same.
 
 use super::LINES;
 use ids::Refusal;
@@ -42,26 +43,28 @@ const OTHERS: &[&str] = &[
     r#"["op",[18446744073709551617,1],[],[],0,["d"]]"#,
 ];
 
-/// Of a line: what its keys and its text repeat, the hops to fields in its place, how often each key and the text repeat it, and whether it
-/// is an operation's. They stand about the limits, and the last two about the longest line that is read at once, 16,384 bytes: one is some
-/// 200 bytes shorter, the other one longer.
+/// Of a line: what its keys and its text repeat, the hops to fields in its place, how many times each key and the text repeat it, and
+/// whether it is an operation's. The values are about the limits of keys and texts; two lines, and the last two, are a little shorter and
+/// a little longer than the longest that is read directly, 32,768 bytes.
 const LONG: &[(&str, usize, usize, usize, bool)] = &[
     ("a", 0, 256, 4096, true),
     ("a", 0, 257, 1, false),
     ("a", 0, 1, 4097, false),
-    ("a", 0, 1, 16_320, false),
-    ("a", 0, 1, 16_400, false),
+    ("a", 0, 1, 32_700, false),
+    ("a", 0, 1, 32_800, false),
     (r#"\""#, 0, 256, 4096, true),
     (r#"\""#, 0, 257, 1, false),
     (r#"\""#, 0, 1, 4097, false),
     (r#"\""#, 30, 256, 1, true),
     (r#"\""#, 30, 256, 4096, true),
+    (r"\u0001", 20, 256, 1, true),
+    (r"\u0001", 21, 256, 1, true),
 ];
 
-/// What stands in place of a byte of a line.
+/// What replaces a byte of a line.
 pub(super) const BYTES: [u8; 7] = *b"09\" ],\\";
 
-/// The line after a space.
+/// The line, preceded by a space.
 pub(super) fn spaced(alloc: Global, line: &[u8]) -> Result<Vec<u8>, AllocError> {
     let mut text = Vec::new(alloc);
     text.push(b' ')?;
@@ -114,7 +117,7 @@ fn push_times(line: &mut Vec<u8>, fill: &str, count: usize) -> Result<(), AllocE
     Ok(())
 }
 
-/// Asserts that the line is read as it is after a space.
+/// Asserts that the line is read as it is when preceded by a space.
 fn is_read_alike(rt: &impl Abort, alloc: Global, line: &[u8]) -> Result<(), AllocError> {
     let spaced = spaced(alloc, line)?;
     match (read_op(alloc, line), read_op(alloc, spaced.as_slice())) {
@@ -125,7 +128,7 @@ fn is_read_alike(rt: &impl Abort, alloc: Global, line: &[u8]) -> Result<(), Allo
     Ok(())
 }
 
-/// Asserts it of the line, of all that it begins with, and of what it is with one other byte.
+/// Asserts this of the line, of each prefix of it, and of the line with one byte changed.
 fn are_read_alike(rt: &impl Abort, alloc: Global, line: &[u8]) -> Result<(), AllocError> {
     for index in 0..line.len() {
         is_read_alike(rt, alloc, &line[..index])?;

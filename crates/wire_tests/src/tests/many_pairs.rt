@@ -1,4 +1,4 @@
-//! Deltas that lead to vectors of 256 pairs, the most, and past them.
+//! Deltas that lead to vectors of 256 pairs, which is the most, and beyond.
 
 use super::beside_lines::{DELTA, reads};
 use super::{Around, with_part};
@@ -8,13 +8,13 @@ use std::process::Abort;
 use std::test::Fail;
 use wire::BundleReader;
 
-/// The first and the last replica of some that follow one another, and the counter that each has.
+/// The first and the last of some consecutive replicas, and the counter of each.
 type Run = (u32, u32, u64);
 
-/// A delta, and the vector that is read there; `None` where the line is refused, and the next one stands beside the same vector.
+/// A delta, and the vector that is read there; `None` if the line is refused, and then the next one is relative to the same vector.
 type Step<'a> = (&'a [Run], Option<&'a [Run]>);
 
-/// What stands around a whole vector, of the same operation as around a delta.
+/// What surrounds a whole vector, and a delta of the same operation.
 const WHOLE: Around = (r#"["op",[9,2],"#, r#",[],0,["d"]]"#);
 
 /// The line with these pairs.
@@ -55,8 +55,8 @@ fn are_next(rt: &impl Abort, alloc: Global, steps: &[Step]) -> Result<(), Refusa
     Ok(())
 }
 
-/// 257 pairs are refused, of the delta or of the vector, and so is a counter 0 for a replica that isn't named, also where there is no room
-/// for it. One that goes makes room for another.
+/// 257 pairs are refused, of the delta or of the vector, and so is a counter 0 for a replica that isn't named, also if there is no room for
+/// it. One that is removed makes room for another.
 #[test]
 fn vectors_of_many_pairs(rt: HostRuntime) -> Result<(), Fail> {
     const STEPS: &[Step] = &[
@@ -84,7 +84,7 @@ fn vectors_of_many_pairs(rt: HostRuntime) -> Result<(), Fail> {
     Ok(())
 }
 
-/// A delta may have more pairs than a vector: each replica that goes has one too.
+/// A delta may have more pairs than a vector: each replica that is removed has one too.
 #[test]
 fn all_replicas_are_others(rt: HostRuntime) -> Result<(), Fail> {
     const STEPS: &[Step] = &[

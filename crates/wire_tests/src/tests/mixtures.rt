@@ -13,13 +13,13 @@ use wire::{BundleWriter, LINE_END, read_bundle, write_op};
 /// How many lists are written and read.
 const LISTS: u32 = 10_000;
 
-/// How many operations a list has at least.
+/// The fewest operations of a list.
 const FEWEST: u64 = 3;
 
-/// How many more it has at most.
+/// How many more it may have.
 const MORE: u64 = 5;
 
-/// How many replicas their vectors name at most.
+/// The most replicas that their vectors name.
 const REPLICAS: usize = 5;
 
 /// A linear congruential generator (Knuth's MMIX).
@@ -42,7 +42,7 @@ impl Dice {
     }
 }
 
-/// Where operations stand.
+/// The places of operations.
 const PLACES: [At; 4] = [At::Root, At::List, At::Head, At::Item];
 
 /// What they do there.
@@ -56,7 +56,7 @@ const MUTATIONS: [Does; 7] = [
     Does::Delete,
 ];
 
-/// Changes some of the counters: one goes, rises by one, or is any other.
+/// Changes some of the counters: one is removed, rises by one, or becomes any other.
 fn change(dice: &mut Dice, counters: &mut [u64; REPLICAS]) {
     for counter in counters.iter_mut() {
         match dice.roll(6) {
@@ -76,8 +76,8 @@ fn drawn(alloc: Global, dice: &mut Dice, counters: &[u64]) -> Result<Shared<Op>,
     fixtures::op(alloc, (counter, 2), counters, place, mutation)
 }
 
-/// Puts the operation's line behind the others, in a profile by a coin. The writer writes each, so that the next one stands beside it; its
-/// line is let go where the coin says profile 1.
+/// Appends the operation's line to the others, in a profile chosen by a coin. The writer writes each, so that the next one is relative to
+/// it; its line is dropped if the coin says profile 1.
 fn put(
     alloc: Global,
     dice: &mut Dice,
@@ -96,7 +96,7 @@ fn put(
     Ok(())
 }
 
-/// Draws operations, and puts the line of each.
+/// Draws operations, and appends the line of each.
 fn draw(
     alloc: Global,
     dice: &mut Dice,
@@ -129,7 +129,7 @@ fn is_read_back(rt: &impl Abort, alloc: Global, dice: &mut Dice) -> Result<(), R
     is_read(rt, alloc, text.as_slice(), ops.as_slice())
 }
 
-/// Vectors rise, shrink and change at random, and each line is of either profile by a coin: the operations that are read are those that
+/// Vectors rise, shrink and change at random, and each line has the profile that a coin says: the operations that are read are those that
 /// were written.
 #[test]
 fn random_mixtures_are_read_back(rt: HostRuntime) -> Result<(), Fail> {

@@ -194,7 +194,7 @@ fn is_bad_with(
     Ok(())
 }
 
-/// A control character stands in a text as it is.
+/// A control character, unescaped in a text.
 #[test]
 fn texts_with_control_characters(rt: HostRuntime) -> Result<(), Fail> {
     let text = (r#"["op",[1,1],[],[["m",0]],"a"#, r#"b",["d"]]"#);
@@ -224,7 +224,7 @@ fn keyed(alloc: Global, key: &[u8]) -> Result<Vec<u8>, AllocError> {
     Ok(line)
 }
 
-/// A byte of no character, half a character, half a surrogate pair, and a zero of two bytes.
+/// A byte that is no character, half a character, half a surrogate pair, and a zero of two bytes.
 #[test]
 fn lines_that_are_no_text(rt: HostRuntime) -> Result<(), Fail> {
     const KEYS: &[&[u8]] = &[b"\xffaa", b"a\xc3a", b"\xed\xa0\xbe", b"a\xc0\x80"];
@@ -292,7 +292,7 @@ const MUTATIONS: &[(&str, Refusal)] = &[
     (r#"[1]"#, Refusal::BadLine),
 ];
 
-/// Asserts that no operation is read from a line that does this, for this reason.
+/// Asserts that no operation is read from a line with this mutation, for this reason.
 fn is_no_mutation(
     rt: &impl Abort,
     alloc: Global,
@@ -312,7 +312,7 @@ fn mutations_without_form(rt: HostRuntime) -> Result<(), Fail> {
     Ok(())
 }
 
-/// Who is a member isn't the line's to know.
+/// A line can't know who is a member.
 #[test]
 fn operations_of_any_replica(rt: HostRuntime) {
     const ROWS: &[Row] = &[
@@ -330,7 +330,7 @@ fn operations_of_any_replica(rt: HostRuntime) {
     are_read(&rt, rt.alloc(), ROWS);
 }
 
-/// Lines that are read, and the faults that their operations have alone.
+/// Lines that are read, and the faults that their operations have by themselves.
 const ALONE: &[(&str, Result<(), Refusal>)] = &[
     (r#"["op",[1,1],[],[],0,["a",{}]]"#, Ok(())),
     (
@@ -360,7 +360,7 @@ fn is_answered(
     Ok(())
 }
 
-/// What is read, and is refused only later: alone for what it says, or against a history.
+/// What is read, but refused later: by itself for what it says, or against a history.
 #[test]
 fn operations_that_are_read_and_refused_alone(rt: HostRuntime) -> Result<(), Fail> {
     for (line, want) in ALONE {
@@ -369,7 +369,7 @@ fn operations_that_are_read_and_refused_alone(rt: HostRuntime) -> Result<(), Fai
     Ok(())
 }
 
-/// What stands around a part, the part, how often it is repeated, and what is read from the line.
+/// What surrounds a part, the part, how many times it is repeated, and what is read from the line.
 type Long<'a> = (Around<'a>, &'a str, usize, Result<Pair, Refusal>);
 
 const PATH: Around = (r#"["op",[1,1],[],[["m",0]"#, r#"],"a",["d"]]"#);
@@ -387,7 +387,7 @@ const LONG: &[Long] = &[
     (TEXT, "t", 4097, Err(Refusal::TextTooLong)),
 ];
 
-/// Lines with two faults, of which the first decides: of the vector, the path, the last key and the mutation.
+/// Lines with two faults, the first of which decides: of the vector, the path, the last key and the mutation.
 const TWO_FAULTS: &[Long] = &[
     (
         (r#"["op",[1,1],[[2,1],[1,1]],[["m",0]"#, r#"],"a",["d"]]"#),
@@ -407,7 +407,7 @@ const TWO_FAULTS: &[Long] = &[
         257,
         Err(Refusal::KeyTooLong),
     ),
-    // The keys come before how they fit together.
+    // Faults of the keys come before how they fit together.
     (
         (r#"["op",[1,1],[],[["m",1]],""#, r#"",["a",1.5]]"#),
         "k",
@@ -472,7 +472,7 @@ fn is_nested(rt: &impl Abort, alloc: Global, times: usize, why: Refusal) -> Resu
     Ok(())
 }
 
-/// That the path is too long is told only where the text is JSON: with 125 lists inside the mutation's and the line's.
+/// That the path is too long is reported only if the text is JSON: with 125 lists inside the mutation's and the line's.
 #[test]
 fn nesting_is_limited(rt: HostRuntime) -> Result<(), Fail> {
     is_nested(&rt, rt.alloc(), 125, Refusal::TooDeep)?;

@@ -1,8 +1,8 @@
-//! A bundle of both profiles is written and read, although an allocation fails: a line that is refused is written or read once more, beside
-//! the same vector.
+//! A bundle of both profiles is written and read, even if an allocation fails: a line that is refused is written or read once more,
+//! relative to the same vector.
 //!
-//! To be run with each allocation refused in turn (`tests/refused_memory.sh`): what is refused is called once more and counted, so each
-//! run passes, and each answer that isn't refused is that of a run in which no allocation fails.
+//! Run with each allocation refused in turn (`tests/refused_memory.sh`): a refused call is made once more and counted, so each run passes,
+//! and each answer that isn't refused is that of a run in which no allocation fails.
 
 use super::canonical_lines::spaced;
 use ids::Refusal;
@@ -47,7 +47,7 @@ const FIVE: &[Row] = &[
 /// Room for their lines.
 const BYTES: usize = 512;
 
-/// How often memory was refused.
+/// How many allocations were refused.
 #[derive(Drop)]
 struct Refused {
     times: u32,
@@ -103,7 +103,7 @@ fn written(
     }
 }
 
-/// The operation on the reader's next line, in the same way.
+/// The operation on the reader's next line, likewise.
 fn read(
     alloc: Global,
     refused: &mut Refused,
@@ -132,7 +132,7 @@ fn is_op(
     Ok(())
 }
 
-/// Writes a row's operation in both profiles, and puts the line that is sent.
+/// Writes a row's operation in both profiles, and appends the line that is sent.
 fn write(
     rt: &impl Abort,
     alloc: Global,
@@ -195,7 +195,7 @@ fn read_all(
     Ok(())
 }
 
-/// Asserts it of the lines after a space, which are read as any JSON.
+/// Asserts this of the lines preceded by a space, which are read as any JSON.
 fn read_spaced(
     rt: &impl Abort,
     alloc: Global,
@@ -246,7 +246,8 @@ fn read_whole(
     Ok(())
 }
 
-/// Each line is written and read as in a run without a refusal, by a writer and a reader that go on as they were, and so is the whole text.
+/// Each line is written and read as in a run without a refusal, by a writer and a reader that go on from where they were, and so is the
+/// whole text.
 #[test]
 fn a_bundle_goes_on(rt: HostRuntime) -> Result<(), Fail> {
     let mut refused = Refused { times: 0 };

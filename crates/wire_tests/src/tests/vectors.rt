@@ -7,7 +7,7 @@ use std::process::Abort;
 use std::test::Fail;
 use wire::{read_vector, write_vector};
 
-/// What is written of the vector that is read from this line, or why none is read.
+/// How the vector that is read from this line is written, or why none is read.
 fn rewritten(alloc: Global, line: &str) -> Result<Vec<u8>, Refusal> {
     let vector = read_vector(alloc, line.as_bytes())?;
     Ok(write_vector(alloc, &vector)?)
@@ -80,7 +80,7 @@ fn lines_that_are_no_vectors(rt: HostRuntime) {
     }
 }
 
-/// What stands around the pairs of a vector.
+/// What surrounds the pairs of a vector.
 const HELLO: Around = (r#"["hello","#, "]");
 
 /// Asserts that no vector is read from a line with these pairs, for this reason.

@@ -118,8 +118,8 @@ impl Engine {
         self.receive(client, read)
     }
 
-    /// A client receives bytes of any origin, and submits the operations on their lines, of either profile. The first line stands beside
-    /// the empty vector, whatever was received before.
+    /// A client receives bytes that may come from anywhere, and submits the operations on their lines, of either profile. The first line is
+    /// relative to the empty vector, whatever was received before.
     ///
     /// # Errors
     /// `AllocError` if allocation fails.
@@ -180,8 +180,8 @@ impl Engine {
         })
     }
 
-    /// A client that is there submits the operations, up to the first that is refused. Returns how many it submitted, and why the
-    /// next one was refused, if it was.
+    /// A client that exists submits the operations, up to the first that is refused. Returns how many it submitted, and why the next one
+    /// was refused, if it was.
     ///
     /// # Errors
     /// `AllocError` if allocation fails.
@@ -210,7 +210,7 @@ impl Engine {
     }
 }
 
-/// The hello of this number, if it is one.
+/// The message of this number, if it is a hello.
 fn hello_at(messages: &[Message], number: usize) -> Option<&NamedVector>
     ensures some { IfSome result
         (λ h. slice_get (map message_of messages.now) number ≡ Some (HelloOf h.now)) }
@@ -222,7 +222,7 @@ fn hello_at(messages: &[Message], number: usize) -> Option<&NamedVector>
     }
 }
 
-/// The first serial of this many submissions, 0 if there is none.
+/// The first serial of this many submissions, which begin at `serial`; 0 if there are none.
 fn first_serial(submitted: u64, serial: u64) -> u64
     ensures { result ≡ cond (submitted == 0) 0 serial }
 {
@@ -242,7 +242,7 @@ fn first_refusal(refused: Option<Refusal>, bad: Option<Refusal>) -> Option<Refus
     }
 }
 
-/// The stop at the next line, if that is refused.
+/// The stop at the next line, if that was refused.
 fn stop_after(submitted: u64, refused: Option<Refusal>) -> Option<(u64, Refusal)>
     requires { submitted + 1 < 2 ^ 64 }
     ensures { result ≡ stop_after submitted refused }

@@ -1,4 +1,4 @@
-//! What tokens of an engine read: answers to submissions, and to questions. What a token reads, it has seen.
+//! What tokens of an engine read: answers to submissions and to questions. A token has seen what it reads.
 
 ghost use Rattle.std.specs.Prelude.{◌≡◌, OnErr, OnOk, IfOk, map, length, option_map, option_and_then};
 ghost use Rattle.semantics.specs.Engine.{Engine as TheEngine, Read, published_entries};
@@ -35,7 +35,7 @@ impl Engine {
         WorldReply::Replied(given.reply)
     }
 
-    /// A token learns of the answer to a client's serial. It has then seen at least what was published with that.
+    /// A token learns of the answer to a client's serial. It has then seen at least what was published with that answer.
     pub fn learn(&mut self, token: usize, client: usize, serial: u64) -> WorldReply
         ensures engine { self.new ≡ (learn self.old token client serial).engine }
         ensures reply { step_reply_of result ≡ (learn self.old token client serial).reply }
@@ -48,7 +48,7 @@ impl Engine {
         WorldReply::Seen(seen as u64)
     }
 
-    /// A token asks, and sees all that is published. Copies what is answered.
+    /// A token asks, and sees all that is published. Copies the answer.
     ///
     /// # Errors
     /// `AllocError` if allocation fails.
@@ -102,7 +102,7 @@ impl Engine {
     }
 }
 
-/// The answer to a client's serial once it is set.
+/// The answer to a client's serial, once it is set.
 fn answer_under(clients: &[Client], client: usize, serial: u64) -> Option<Given>
     ensures { (E : TheEngine) → E.clients ≡ map client_of clients.now →
         option_map given_of result ≡ option_and_then (λ cell. cell.answer) (cell_under E client serial) }
@@ -110,7 +110,7 @@ fn answer_under(clients: &[Client], client: usize, serial: u64) -> Option<Given>
     clients.get(client)?.cell(serial)?.answer
 }
 
-/// How many entries a token has seen; the tokens are the clients', then the readers'.
+/// How many entries a token has seen; the tokens are first the clients', then the readers'.
 fn seen_by(clients: &[Client], readers: &[usize], token: usize) -> usize
     ensures { (E : TheEngine) → E.clients ≡ map client_of clients.now → E.readers ≡ readers.now
         → result ≡ seen_by E token }

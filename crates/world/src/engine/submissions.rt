@@ -41,7 +41,7 @@ impl Engine {
         }
     }
 
-    /// The serial under which a client submits next.
+    /// The serial of a client's next submission.
     pub(super) fn next_serial(&self, client: usize) -> u64
         requires { client < length self.now.clients }
         ensures { (k : TheClient) → slice_get self.now.clients client ≡ Some k → result ≡ length k.cells + 1 }
@@ -49,7 +49,7 @@ impl Engine {
         self.clients[client].cells.len() as u64 + 1
     }
 
-    /// A client that is there submits a request. Returns why that was refused, or `None` if it was taken.
+    /// A client that exists submits a request. Returns why it was refused, or `None` if it was taken.
     ///
     /// # Errors
     /// `AllocError` if allocation fails.
@@ -79,7 +79,7 @@ impl Engine {
     }
 }
 
-/// Keeps a submission for its client, and puts it at the back of the queue. Both share what was submitted.
+/// Keeps a submission for its client, and appends it to the queue. Both share what was submitted.
 ///
 /// # Errors
 /// `AllocError` if allocation fails. Nothing is kept or queued then.

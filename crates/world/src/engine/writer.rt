@@ -25,7 +25,7 @@ impl Engine {
     /// The writer takes the oldest submission and handles it, if fewer than a batch are handled and none is due.
     ///
     /// # Errors
-    /// `AllocError` if allocation fails. The submission may be handled in part then, and is still in the queue.
+    /// `AllocError` if allocation fails. The submission may then be handled in part, and is still in the queue.
     pub fn take(&mut self, alloc: Global) -> Result<WorldReply, AllocError>
         requires { IsReachedEngine self.old }
         ensures engine { OnOk result (self.new ≡ (take_submission self.old).engine) }
@@ -51,7 +51,7 @@ impl Engine {
     /// The writer publishes all that it handled. Clones nothing.
     ///
     /// # Errors
-    /// `AllocError` if allocation fails. Some entries may be published then.
+    /// `AllocError` if allocation fails. Some entries may then be published.
     pub fn publish(&mut self, alloc: Global) -> Result<WorldReply, AllocError>
         ensures engine { OnOk result (self.new ≡ (publish self.old).engine) }
         ensures reply { IfOk result (λ r. step_reply_of r ≡ (publish self.old).reply) }
@@ -84,10 +84,10 @@ impl Engine {
         WorldReply::Gave { client, serial }
     }
 
-    /// The writer takes while it may, publishes if it may, and then sets all answers.
+    /// The writer takes submissions while it may, publishes if it may, and then sets all answers.
     ///
     /// # Errors
-    /// `AllocError` if allocation fails. Some submissions may be handled then, and are not answered.
+    /// `AllocError` if allocation fails. Some submissions may then be handled, but not answered.
     pub fn step(&mut self, alloc: Global) -> Result<WorldReply, AllocError>
         requires { IsReachedEngine self.old }
         ensures engine { OnOk result (self.new ≡ (whole_step self.old).engine) }
@@ -107,7 +107,7 @@ impl Engine {
     /// Takes up to a batch of submissions.
     ///
     /// # Errors
-    /// `AllocError` if allocation fails. A submission may be handled in part then.
+    /// `AllocError` if allocation fails. A submission may then be handled in part.
     fn take_all(&mut self, alloc: Global) -> Result<(), AllocError>
         requires { IsReachedEngine self.old }
         ensures engine { OnOk result (self.new ≡ take_for self.old.batch self.old) }
@@ -132,10 +132,10 @@ impl Engine {
     }
 }
 
-/// Handles a submission as the rules have it. Clones what the history keeps.
+/// Handles a submission according to the rules. Clones what the history keeps.
 ///
 /// # Errors
-/// `AllocError` if allocation fails. The submission may be handled in part then.
+/// `AllocError` if allocation fails. The submission may then be handled in part.
 fn handle(
     alloc: Global,
     handler: &mut Handler,

@@ -1,4 +1,4 @@
-//! What engines reply about nested documents: each command and each question, and why they are refused.
+//! The replies of engines about nested documents: each command and each question, and why they are refused.
 
 use super::*;
 
@@ -19,7 +19,7 @@ const AT_FOURTH: &[To] = &[AtKey("shopping"), Place(4)];
 /// An expression with a step from the head.
 const BELOW_HEAD: &[To] = &[AtKey("shopping"), Place(0), AtKey("a")];
 
-/// A list with three items, made in one batch: 1@1 is the map, 2@1 the list, 3@1 and 4@1 stand at its front.
+/// A list with three items, made in one batch: 1@1 is the map, 2@1 the list, and 3@1 and 4@1 are inserted at its front.
 const SHOPPING: &[Row] = &[
     (Assign(0, &[], Map), "Ticket(1)"),
     (Assign(0, AT_LIST, List), "Ticket(2)"),
@@ -84,7 +84,7 @@ fn deleted_items_are_not_counted(rt: HostRuntime) -> Result<(), Fail> {
     shop_replies(&rt, rt.alloc(), ROWS)
 }
 
-/// A value that is written, and what is read where it was: its values, and its conflicts.
+/// A value that is written, and what is then read there: its values, and its conflicts.
 type Written<'a> = (Wrote<'a>, &'a str, &'a str);
 
 const WRITTEN: &[Written] = &[

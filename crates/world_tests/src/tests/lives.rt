@@ -113,14 +113,14 @@ struct Progress {
     failed: bool,
 }
 
-/// Asserts that a run was answered, after which this many steps are done: all that were given, and no run was refused before.
+/// Asserts that a run was answered, after which this many steps are done: all that were given, since no run was refused before.
 fn expect_whole(rt: &impl Abort, progress: &mut Progress, done: u64) {
     assert!(rt; !progress.failed);
     assert_eq!(rt; done, progress.given);
     progress.done = done;
 }
 
-/// Asserts that a run was refused, after which this many steps are done: as many as before if a run was refused then.
+/// Asserts that a run was refused, after which this many steps are done: as many as before, if a run was refused before.
 fn expect_end(rt: &impl Abort, progress: &mut Progress, done: u64) {
     let Progress {
         given,
@@ -176,8 +176,8 @@ fn play(rt: &impl Abort, alloc: Global) -> Result<(), Refusal> {
     Ok(())
 }
 
-/// If no allocation fails this is a session of 12 steps. It is for refusing each allocation in turn: after the first `NoMemory`
-/// there is no other answer.
+/// If no allocation fails, this is a session of 12 steps. It is for refusing each allocation in turn: after the first `NoMemory` there is
+/// no other answer.
 #[test]
 fn a_world_ends_where_memory_is_refused(rt: HostRuntime) {
     if let Err(why) = play(&rt, rt.alloc()) {

@@ -1,4 +1,4 @@
-//! What engines reply in sessions: queues, serials, batches, and which write stands.
+//! The replies of engines in sessions: queues, serials, batches, and which write stays.
 
 use super::*;
 

@@ -1,15 +1,15 @@
-//! Replies as tests write them.
+//! Replies in the form in which tests write them.
 
 use super::*;
 use std::alloc::AllocError;
 use std::fmt::Write;
 
-/// A text as tests write it, in quotation marks.
+/// A text in that form: in quotation marks.
 fn quoted(alloc: Global, text: &str) -> Result<String, AllocError> {
     format!(in alloc; "'{text}'")
 }
 
-/// A scalar as tests write it.
+/// A scalar in that form.
 fn scalar_shown(alloc: Global, scalar: &Scalar) -> Result<String, AllocError> {
     match scalar {
         Scalar::Null => String::from_str(alloc, "null"),
@@ -20,7 +20,7 @@ fn scalar_shown(alloc: Global, scalar: &Scalar) -> Result<String, AllocError> {
     }
 }
 
-/// What was read as tests write it: ids as `1@1`, values as `2@1 wrote 7`.
+/// What was read in that form: ids as `1@1`, values as `2@1 wrote 7`.
 fn reading_shown(alloc: Global, reading: &Reading) -> Result<String, Fail> {
     let mut text = String::new(alloc);
     match reading {
@@ -60,7 +60,7 @@ fn reading_shown(alloc: Global, reading: &Reading) -> Result<String, Fail> {
     Ok(text)
 }
 
-/// A receipt as tests write it: `Received 2 from 1`, and where it stopped, `E22 at 3`.
+/// A receipt in that form: `Received 2 from 1`, and where it stopped, `E22 at 3`.
 fn receipt_shown(
     alloc: Global,
     first: u64,
@@ -75,7 +75,7 @@ fn receipt_shown(
     }
 }
 
-/// The vector as tests write it, a pair as `2@1`.
+/// The vector in that form: a pair as `2@1`.
 fn vector_shown(alloc: Global, vector: &NamedVector) -> Result<String, Fail> {
     let mut text = String::new(alloc);
     for id in vector.ids() {
@@ -84,19 +84,19 @@ fn vector_shown(alloc: Global, vector: &NamedVector) -> Result<String, Fail> {
     Ok(text)
 }
 
-/// A reading as tests write it: `Read 2: 2@1 wrote 7`.
+/// A reading in that form: `Read 2: 2@1 wrote 7`.
 fn read_shown(alloc: Global, seen: u64, reading: &Reading) -> Result<String, Fail> {
     let text = reading_shown(alloc, reading)?;
     Ok(format!(in alloc; "Read {seen}:{text}")?)
 }
 
-/// A hello as tests write it: `Hello 0: 1@1`.
+/// A hello in that form: `Hello 0: 1@1`.
 fn hello_shown(alloc: Global, message: u64, vector: &NamedVector) -> Result<String, Fail> {
     let text = vector_shown(alloc, vector)?;
     Ok(format!(in alloc; "Hello {message}:{text}")?)
 }
 
-/// A client's answer as tests write it, where that isn't as it is printed for debugging.
+/// A client's answer in that form, if that differs from how it is printed for debugging.
 fn answer_shown(alloc: Global, reply: &Reply) -> Result<String, AllocError> {
     match reply {
         Reply::Made(id, position) => format!(in alloc; "Made {id} at {position}"),
@@ -105,7 +105,7 @@ fn answer_shown(alloc: Global, reply: &Reply) -> Result<String, AllocError> {
     }
 }
 
-/// A reply without a reading as tests write it.
+/// A reply without a reading, in that form.
 fn other_shown(alloc: Global, reply: &WorldReply) -> Result<String, AllocError> {
     match reply {
         WorldReply::NotRead { seen, why } => format!(in alloc; "Not read {seen}: {why}"),
@@ -117,7 +117,7 @@ fn other_shown(alloc: Global, reply: &WorldReply) -> Result<String, AllocError> 
     }
 }
 
-/// The reply as tests write it.
+/// The reply in that form.
 fn shown(alloc: Global, reply: &WorldReply) -> Result<String, Fail> {
     match reply {
         WorldReply::Replied(reply) => Ok(answer_shown(alloc, reply)?),

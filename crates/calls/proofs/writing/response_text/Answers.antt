@@ -6,7 +6,7 @@ use Rattle.calls.specs.declared.response.Response.{Response}
 use Rattle.calls.specs.Responses.{response_json}
 use Rattle.calls.proofs.writing.response_text.Goals as goal
 
--- what is written whatever a glance shows is so where it shows nothing
+-- what is written whatever a glance shows is also written if it shows nothing
 any : {V E : Type 0} (items : V → List ℕ) (said : Response) (r : Result V E)
     → IfOk r (λ t. (shown : Data) → items t ≡ compact_text (response_json shown said))
     → IfOk r (λ t. (shown : Data) × (items t ≡ compact_text (response_json shown said)))

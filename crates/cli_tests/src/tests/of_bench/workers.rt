@@ -29,7 +29,7 @@ impl Gate for Always {
     }
 }
 
-/// What a worker with two commands returns, and how many of them wait in the queue then.
+/// What a worker with two commands returns, and how many of them are then queued.
 fn row<R: Wait + Abort>(
     rt: &R,
     alloc: Global,

@@ -13,7 +13,7 @@ pub loop-low-init : goal.loop-low-init
 loop-low-init g c =
     let es = entries_of c.args.entries.now.items in
     sought_in id_cmp c.args.id (keys_of es) c.len-high.result
-    (c.len-high.ensures ∙ sym (length-keys_of es ∙ length-entries_of c.args.entries.now.items))
+    (c.len-high.ensures.length ∙ sym (length-keys_of es ∙ length-entries_of c.args.entries.now.items))
 
 pub id_at-requires : goal.id_at-requires
 id_at-requires g c =

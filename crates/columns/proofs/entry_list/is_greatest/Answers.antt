@@ -25,7 +25,7 @@ returns g c =
     let i : ℕ = length c.args.entries.now.items - 1 in
     let x = c.id_at.result in
     let at_last : c.cmp.result ≡ id_cmp c.args.id (get_or keys i x) = c.cmp.ensures ∙ ap (id_cmp c.args.id) (sym (c.id_at.ensures x))
-    ∙ ap (λ n. id_cmp c.args.id (get_or keys (n - 1) x)) c.len-count.ensures in (
+    ∙ ap (λ n. id_cmp c.args.id (get_or keys (n - 1) x)) c.len-count.ensures.length in (
       λ t.
           let is : id_cmp c.args.id (get_or keys i x) ≡ Greater = sym at_last ∙ greater c.cmp.result (sym c.is_gt.ensures ∙ t) in
           let above : i < rank id_cmp c.args.id keys = rank_above id_cmp id_total c.args.id keys i x rising (omega arith) is in

@@ -161,7 +161,7 @@ fn fields_come_and_go(rt: HostRuntime) -> Result<(), Fail> {
         ((2, 1), &[1], B, Assign(Text("b"))),
         ((3, 1), &[2], A, Assign(Text("a"))),
     ];
-    // A late value comes back, stays where a clear didn't see it, and goes with one that did.
+    // A late value comes back, survives a clear that didn't see it, and is removed by one that did.
     const TURNS: &[Turn] = &[
         Keys(&[Get("set")], &["a", "b"]),
         Take(((4, 1), &[3], A, Delete)),
@@ -202,7 +202,7 @@ const CLEARED: &[Sent] = &[
 #[test]
 fn late_items_of_a_cleared_list_go_with_a_clear_that_saw_them(rt: HostRuntime) -> Result<(), Fail> {
     const LATE: &[Step] = &[Get("letters"), ById((2, 2))];
-    // The second clear saw x, which is older than the first one, and didn't see c.
+    // The second clear saw x, which is older than the first clear, but not c.
     const TURNS: &[Turn] = &[
         Items(SHOWN, &[]),
         Take(((2, 2), &[1], AT_HEAD, Insert(Text("x")))),

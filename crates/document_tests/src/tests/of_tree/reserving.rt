@@ -1,4 +1,4 @@
-//! What `reserve` leaves as it was, and what may follow it.
+//! What `reserve` leaves unchanged, and what may follow it.
 
 use super::playing::Does::{Assign, Delete, Insert};
 use super::playing::Hop::{Field, Head, Item};
@@ -25,7 +25,7 @@ const GROCERIES: &[Sent] = &[
     ((3, 1), &[2], NOTE, Assign(Text("today"))),
 ];
 
-/// All that the groceries hold beneath the root.
+/// Everything that the groceries hold beneath the root.
 const HELD: &[Turn] = &[
     Items(&[Get("list")], &[(2, 1)]),
     Values(&[Get("list"), Idx(1)], &[((2, 1), Text("eggs"))]),
@@ -49,7 +49,7 @@ const FORMS: &[Sent] = &[
     ((4, 2), &[3], NOTE, Delete),
 ];
 
-/// Reserves an operation twice, and asserts all that the groceries hold each time.
+/// Reserves an operation twice, and each time asserts everything that the groceries hold.
 fn assert_keeps(
     rt: &impl Abort,
     alloc: Global,
@@ -84,7 +84,7 @@ fn reserves_keep_the_content(rt: HostRuntime) -> Result<(), Fail> {
     Ok(())
 }
 
-/// Makes the groceries, reserves a form, and plays these turns and then those.
+/// Makes the groceries, reserves a form, and plays the next turns and then the last.
 fn take_after(
     rt: &impl Abort,
     alloc: Global,
@@ -118,7 +118,7 @@ fn another_operation_follows_each_reserve(rt: HostRuntime) -> Result<(), Fail> {
     after_each(&rt, rt.alloc(), LATE, HELD)
 }
 
-/// Assigns a map, which is all that stands there.
+/// Assigns a map, the only thing that is then present there.
 const MAP: &[Turn] = &[
     Take(((4, 1), &[3], MORE, Assign(Map))),
     Values(&[Get("more")], &[]),

@@ -1,20 +1,20 @@
-//! All schedules of a few actors, one after another: each choice of who goes on next is tried.
+//! All schedules of a few actors, one after another: each choice of the next actor is tried.
 
 use super::{Atomic, Turns};
 use ids::Refusal;
 use std::alloc::Global;
 
-/// How many steps a schedule has at most.
+/// The most steps of a schedule.
 const MOST_STEPS: usize = 12;
 
-/// Which of the actors with steps left goes on, counted from 0, and how many such actors there are.
+/// Which of the actors with steps left goes next, counted from 0, and how many such actors there are.
 #[derive(Clone, Copy)]
 pub struct Choice {
     taken: usize,
     of: usize,
 }
 
-/// The steps of all actors by these choices. Where the choices end, the first actor with steps left goes on, and that choice is
+/// The steps of all actors by these choices. When the choices run out, the first actor with steps left goes next, and that choice is
 /// appended.
 pub fn schedule(
     alloc: Global,

@@ -7,7 +7,7 @@ use Rattle.notebook.proofs.ClientSteps.{all_seen}
 use Rattle.notebook.proofs.exchange.submit_all.Goals.{in-None, in-Some+in_default}
 use Rattle.notebook.proofs.exchange.submit_all.Goals as goal
 
--- what a piece leaves to be seen
+-- submitting a piece leaves what was seen
 left : (c d : Client) (ops : List Op) (G : List Entry) → d ≡ record (all_submitted c ops) { found_full = d.found_full } → c.seen ≡ G
     → d.seen ≡ G
 left c d ops G is same = ap (λ (k : Client). k.seen) is ∙ all_seen c ops ∙ same

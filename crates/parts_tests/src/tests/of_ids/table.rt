@@ -68,7 +68,7 @@ fn members_are_different_and_above_zero(rt: HostRuntime) {
     }
 }
 
-/// Takes in a replica where there is room, unless it is there. Returns its index.
+/// Takes in a replica if there is room, unless it is in the table. Returns its index.
 fn join(table: &mut ReplicaTable, number: u32) -> Result<usize, Refusal> {
     let replica = ReplicaId::new(number).ok_or(Refusal::UnknownReplica)?;
     if table.lacks_room_for(replica) {
@@ -78,7 +78,7 @@ fn join(table: &mut ReplicaTable, number: u32) -> Result<usize, Refusal> {
     Ok(table.index_or_join(replica))
 }
 
-/// A number that is to join, and its index then.
+/// A number that is to join, and the index that it then has.
 type Joins = (u32, usize);
 
 /// Asserts the indices that these numbers have, one after another.
@@ -129,7 +129,7 @@ fn fill(rt: &impl Abort, table: &mut ReplicaTable) -> Result<(), Refusal> {
     Ok(())
 }
 
-/// Asserts that the table has room for these numbers, and none for those.
+/// Asserts that the table has room for the first numbers, and none for the second.
 fn assert_room(rt: &impl Abort, table: &ReplicaTable, has: &[u32], lacks: &[u32]) {
     for (numbers, want) in [(has, Some(false)), (lacks, Some(true))] {
         for number in numbers {

@@ -1,4 +1,4 @@
-//! What vectors name, and how they stand to one another.
+//! What vectors name, and how they compare.
 
 use fixtures::{Pair, id_of};
 use ids::{NamedVector, ReplicaId};
@@ -6,7 +6,7 @@ use std::alloc::Global;
 use std::process::Abort;
 use std::test::Fail;
 
-/// The vector of two pairs whose replicas rise.
+/// The vector of two pairs, in ascending order of replica.
 fn of_two(alloc: Global, pairs: [Pair; 2]) -> Result<NamedVector, Fail> {
     let [first, second] = pairs;
     let (first, second) = (id_of(first)?, id_of(second)?);

@@ -1,4 +1,4 @@
-//! What waits is found by its id, and comes out by rising id.
+//! What waits is found by its id, and leaves in ascending id order.
 
 use super::*;
 

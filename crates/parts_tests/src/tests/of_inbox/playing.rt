@@ -1,4 +1,4 @@
-//! What is done with an inbox in a test, as a table of turns, and what plays it.
+//! What a test does with an inbox, as a table of turns, and what plays them.
 
 ghost use Rattle.std.specs.Prelude.{◌<◌};
 
@@ -31,7 +31,7 @@ pub enum Turn {
     Take(Pair, Option<Writes>),
     /// Whether one with this id waits.
     Has(Pair, bool),
-    /// Whether there is room for one more, which is ready or not.
+    /// Whether there is room for one more that is ready, or that isn't.
     Room(bool, bool),
     Len(usize),
 }
@@ -154,7 +154,7 @@ fn fill(
     Ok(())
 }
 
-/// Plays these turns and then those, once this many operations wait of which none is ready.
+/// Plays the first turns and then the last, once this many operations wait, none of which is ready.
 fn fill_and_play(
     rt: &impl Abort,
     alloc: Global,
@@ -171,8 +171,8 @@ fn fill_and_play(
     play(rt, alloc, inbox, document, second)
 }
 
-/// Plays these turns and then those on a new inbox of replica 1 among 1, 2 and 3, once this many operations wait there of which
-/// none is ready.
+/// Plays the first turns and then the last on a new inbox of replica 1 among 1, 2 and 3, once this many operations wait there, none of
+/// which is ready.
 pub fn on_new(
     rt: &impl Abort,
     alloc: Global,

@@ -1,4 +1,4 @@
--- Both copies stand for the empty beginning of the engine's history.
+-- Both copies represent the empty beginning of the engine's history.
 use Rattle.std.proofs.Common.{◌≡◌, [], ap, ◌∙◌}
 use Rattle.published.specs.Beginnings.{Beginning}
 use Rattle.published.specs.Copies.{Snapshot}

@@ -24,7 +24,7 @@ allowed : (line : List ℕ) (gs : List Configuration) → said_engines line ≡ 
     → engines_line line ≡ Ok gs
 allowed line gs e within = rw (e, within) refl
 
--- a fault of the limits, or of the further lines, is the script's
+-- a fault of the limits, or of the other lines, is the script's
 further : (text line rest : List ℕ) (gs : List Configuration) (f : ScriptError) → IsFirstLine text line rest → said_engines line ≡ Ok gs
     → (within : Bool) → list_all is_within_limits gs ≡ within
     → IsErrorOf (unless_bad (λ hs. steps_left (edition_of line) hs 1 rest) (on_line 1 (if_within_limits gs))) f

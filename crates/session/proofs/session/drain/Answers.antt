@@ -7,7 +7,7 @@ use Rattle.replica.specs.Replicas.{Running, IsNextReady, next_of, replica_of}
 use Rattle.session.proofs.Draining.{appending_on, dropping_on, fewer, no_more, whole}
 use Rattle.session.proofs.session.drain.Goals as goal
 
--- what is ready, if there is one, is ready where there is one
+-- if something is ready, what is returned is ready
 next : {r : Running} {o : Option Op} {op : Op} → o ≡ Some op → IfSome o (λ op. IsNextReady r (stamped_of op))
     → IsNextReady r (stamped_of op)
 next {r = r} e = subst (λ (x : Option Op). IfSome x (λ op. IsNextReady r (stamped_of op))) e

@@ -1,4 +1,4 @@
--- Some turns of a drain were made, and each takes one that waits.
+-- The drain has taken some turns, each of which takes an operation that waits.
 use Rattle.std.proofs.Common.{length}
 use Rattle.replica.specs.Replicas.{replica_of}
 use Rattle.session.proofs.Draining.{IsDraining}

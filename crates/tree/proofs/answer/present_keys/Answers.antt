@@ -65,7 +65,7 @@ loop-position-preserved c = record {
       ];
 }
 
--- the keys so far are the first of all
+-- the keys so far are the first of all the keys
 pub returns-then-len-count-clause-first : goal.returns-then-len-count-clause-first
 returns-then-len-count-clause-first c = λ e at.
     let ns = c.args.nodes.now in
@@ -74,7 +74,7 @@ returns-then-len-count-clause-first c = λ e at.
     (let n = c.if-len-count.true in let all = c.len.ensures in omega (arith, n, all)) (c.loop-position.invariant.found e at)
     ∙ ap (λ o. take c.args.count (filter p (map (λ x. x.0) (names_in ns (links_of (node_in ns o)).0)))) (sym at)
 
--- the keys so far are all
+-- the keys so far are all the keys
 pub returns-clause-first : goal.returns-clause-first
 returns-clause-first c = λ e at.
     let ns = c.args.nodes.now in

@@ -133,7 +133,7 @@ fields-preserved t c =
           (but_wider mid b x off (one.shown x off (child e p) (inv.shown e off p s))));
     }
 
--- the loop passes by the items below the bound, and clearing these would change nothing
+-- the loop skips the items below the bound, and clearing these would change nothing
 pub items-init : goal.items-init
 items-init t c =
     let old = c.args.nodes.now in

@@ -1,4 +1,4 @@
--- What is left goes behind the rows so far, and what is left out only where there is no room for it.
+-- What is left goes behind the rows so far, and something is left out only where there is no room for it.
 use Rattle.std.proofs.Common.{◌≡◌, ◌<◌, ◌≤◌, ◌+◌, ◌++◌, ◌-◌, [], length, drop, map, option_map}
 use Rattle.std.specs.Vec.Iter.{into_iter_items, into_iter_len}
 use Rattle.semantics.specs.Elements.{Element}

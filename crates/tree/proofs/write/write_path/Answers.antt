@@ -1,4 +1,4 @@
--- Each hop enters its element as the definition does, and keeps the shape, and the room that later hops want.
+-- Each hop enters its element as the definition does, and keeps the shape and the room that later hops need.
 use Rattle.std.proofs.Common.{◌≡◌, ◌≢◌, ◌<◌, ◌+◌, map, sym, ap, ◌∙◌, arith, List, take, Some, subst}
 use Rattle.std.specs.Prelude.{IsSome}
 use Rattle.std.proofs.lemmas.List.{take_all, length-map}

@@ -1,4 +1,4 @@
--- What is left decides beside the reader's base, after the operations so far.
+-- What is left decides, relative to the reader's base, after the operations so far.
 use Rattle.std.proofs.Common.{◌≡◌, [], map, length}
 use Rattle.operation.specs.Ops.{stamped_of}
 use Rattle.wire.specs.Bundles.{readable}

@@ -1,5 +1,5 @@
--- What is left follows the lines so far, beside the vector of the last of them; and if each line of what is left is read as its operation,
--- each line is.
+-- What is left follows the lines so far, relative to the vector of the last of them; and if each line of what is left is read as its
+-- operation, each line is.
 use Rattle.std.proofs.Common.{◌≡◌, ◌++◌, [], drop, map}
 use Rattle.ids.specs.Vectors.{IsCanonical}
 use Rattle.operation.specs.Ops.{stamped_of}

@@ -1,4 +1,4 @@
--- What is left decides, after the pairs so far, whose replicas rise up to the last.
+-- What is left decides, after the pairs so far, which are in ascending order of replica up to the last.
 use Rattle.std.proofs.Common.{◌≡◌, ◌++◌, suc, drop, Ok}
 use Rattle.ids.specs.Vectors.{AreBelow}
 use Rattle.serde_json.specs.View.{items_view}

@@ -18,7 +18,7 @@ none_before : (r : Result Vector Refusal) → and_then (λ v. Ok ([] ++ v)) r �
 none_before (Ok v) = refl
 none_before (Err why) = refl
 
--- one pair more
+-- one more pair
 after_pair : (done : Vector) (a : OpId) (last : ℕ) (x : Value) (xs : List Value) → pair_form (view x) ≡ Ok a
     → next_of last a ≡ Ok a
     → and_then (λ v. Ok (done ++ v)) (pairs_above last (items_view (x ∷ xs)))

@@ -15,7 +15,7 @@ use Rattle.world.proofs.TurnedWorlds.{after_next}
 use Rattle.world.proofs.Results.{on_err}
 use Rattle.world.proofs.world.run_all.Goals as goal
 
--- one step more after these
+-- one more step after these
 one_more : (W U V : World) (steps : List WorldStep) (n : ℕ) (o : WorldStep) → n < length steps → o ≡ get_or steps n o
     → U ≡ world_after W (take n (map step_of steps))
     → V ≡ (world_step U (step_of o)).world

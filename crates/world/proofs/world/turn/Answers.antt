@@ -13,7 +13,7 @@ use Rattle.world.proofs.TurnedWorlds.{world_step-there}
 use Rattle.world.proofs.Results.{then_err}
 use Rattle.world.proofs.world.turn.Goals as goal
 
--- the world after a step of an engine that is there as E
+-- the world after a step of an engine that exists in it as E
 module _ (Es : List Engine) (ms : List Message) (s : WorldStep) (E : Engine) (at : slice_get Es s.engine ≡ Some E) where
   turned : world_step (world Es ms) (step_of s)
       ≡ record {
@@ -32,7 +32,7 @@ turn-requires c =
     let there = slice_get_read Es (length Es) c.args.step.now.engine E refl (omega arith) c.index_mut-engine.ensures.value in
     reached_at (world Es (map message_of c.args.messages.now.items)) c.requires c.args.step.now.engine E there
 
--- the engine that moves is there
+-- the engine that moves exists
 there : (c : goal.After-engines-1) → slice_get c.args.engines.now.items c.args.step.now.engine ≡ Some c.index_mut-engine.result.now
 there c =
     let Es = c.args.engines.now.items in

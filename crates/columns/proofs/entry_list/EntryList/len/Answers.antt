@@ -6,7 +6,7 @@ use Rattle.columns.proofs.Columns.{length-entries_of}
 use Rattle.columns.proofs.entry_list.EntryList.len.Goals as goal
 
 pub returns-clause-length : goal.returns-clause-length
-returns-clause-length g c = c.len.ensures ∙ sym (length-entries_of c.self.inside.entries.items)
+returns-clause-length g c = c.len.ensures.length ∙ sym (length-entries_of c.self.inside.entries.items)
     ∙ ap (λ (m : Entries g.row.T.Denot). length m.entries) c.self.view_is
 
 pub returns-clause-indexed : goal.returns-clause-indexed

@@ -1,4 +1,4 @@
--- Two places are one where both or neither are heads, and their hops are the same.
+-- Two places are the same where both or neither are heads, and their hops are the same.
 use Rattle.std.proofs.Common.{◌≡◌, List, [], ◌∷◌, map, Bool, true, false, refl, sym, ap, ◌∙◌, true≢false}
 use lib.Pointwise.{pointwise_decides}
 use Rattle.std.proofs.Math.Bool.{beq}

@@ -1,4 +1,4 @@
--- What a look found is kept with the notice; where none has found anything, the cell's answer is legal.
+-- What a look found is kept with the notice; if none has found anything, the cell's answer is legal.
 use Rattle.std.proofs.Common.{◌≡◌, Some, None, List, sym, ap, ◌∙◌, subst, refl}
 use Rattle.std.specs.Option.{IfSome}
 use Rattle.semantics.specs.Entries.{Entry}

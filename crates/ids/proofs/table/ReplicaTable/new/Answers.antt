@@ -1,4 +1,4 @@
--- The members are different, so what the sort leaves is the one list that rises and has them all.
+-- The members are distinct, so what the sort leaves is the one ascending list that has them all.
 use Rattle.std.proofs.Common.{◌≡◌, ◌<◌, IsTrue, List, ℕ, length, get_or, rules, sym, ap, ◌∙◌, subst}
 use Rattle.std.specs.List.Sorted.{IsPermutation}
 use Rattle.ids.specs.Configurations.{are_members}

@@ -20,7 +20,7 @@ use Rattle.journal.proofs.outgoing.Outgoing.answer.Goals as goal
 grown : (F G H : List Entry) (o : Sending) → F ≡ o.seen → BeginsWith G F → BeginsWith H G → BeginsWith H o.seen
 grown F G H o is first second = subst (BeginsWith H) is (begins_trans H G F second first)
 
--- the operations that go out are those of the stored entries
+-- the operations that are sent are those of the stored entries
 lacked : (g : Over) (c : After-drop-vector-inside-2 g) (v : Vector) → c.in_ok-vector.vector ≡ v
     → map stamped_of c.in_ok-ops.ops.items ≡ lacked_of (stored_of c.args.self.now) v
 lacked g c v is =

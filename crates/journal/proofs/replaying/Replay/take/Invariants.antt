@@ -1,4 +1,4 @@
--- What was taken is brought back.
+-- What was taken is replayed.
 use Rattle.std.proofs.Common.{◌≡◌, length, take}
 use Rattle.records.specs.wire.Lines.{cut}
 use Rattle.peer_sync.proofs.TakenLines.{HasTaken}

@@ -9,7 +9,7 @@ use Rattle.serving.specs.Desks.{Desk, IsBundle, Sends}
 use Rattle.serving.proofs.Utf8Bundles.{bundle_utf8}
 use Rattle.serving.proofs.desk.Desk.answer_hello.Goals as goal
 
--- what is said of an answer is a bundle
+-- the response with an answer is a bundle
 sends : (m : Desk) (hello : List ℕ) (a : Answered) (r : Response) → IsBundle a r
     → (v : Vector) × (hello_form hello ≡ Ok v) × IsAnswer 4194304 m.replica m.stored v a → Sends m hello r
 sends m hello a (said.Bundle lines has_more is_beyond) is answer = (a, is, answer)

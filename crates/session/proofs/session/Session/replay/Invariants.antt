@@ -1,4 +1,4 @@
--- What was taken is brought back.
+-- What was taken is replayed.
 use Rattle.std.proofs.Common.{◌≡◌, None, length, take}
 use Rattle.records.specs.wire.Lines.{cut}
 use Rattle.records.specs.Replays.{BringsBackLines}

@@ -1,4 +1,4 @@
--- The base with its changes, of what is left, is what it was; the changes that are left get fewer.
+-- The base with its changes, for what is left, is what it was; the changes that are left get fewer.
 use Rattle.std.proofs.Common.{◌≡◌, length}
 use Rattle.ids.specs.Vectors.{IsCanonical}
 use Rattle.wire.specs.Deltas.{IsRising, changed}

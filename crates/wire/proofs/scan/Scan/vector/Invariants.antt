@@ -1,4 +1,4 @@
--- The pairs so far are of replicas up to the last, and at most one for each turn.
+-- The pairs so far are of replicas up to the last, and there is at most one per turn.
 use Rattle.std.proofs.Common.{◌≤◌, suc, length}
 use Rattle.ids.specs.Vectors.{AreBelow}
 use Rattle.wire.proofs.scan.Scan.vector.Given as goal

@@ -1,4 +1,4 @@
--- The gives that are left lead where all gives lead.
+-- The gives that are left lead to where all gives lead.
 use Rattle.std.proofs.Common.{◌≡◌, ◌-◌}
 use Rattle.semantics.specs.WriteSteps.{give_for}
 use Rattle.world.proofs.engine.Engine.give_all.Given as goal

@@ -6,7 +6,7 @@ use Rattle.world.specs.contracts.engine.Engine.{the_view}
 use Rattle.world.proofs.LearnedAnswers.{learn-unset, learn-set}
 use Rattle.world.proofs.engine.Engine.learn.Goals as goal
 
--- a serial without an answer leaves all as it is
+-- a serial without an answer leaves everything as it is
 unset : (c : goal.In_default)
     → record { engine = the_view c.self.inside; reply = Unanswered }
     ≡ learn (the_view c.self.inside) c.args.token c.args.client c.args.serial
@@ -21,7 +21,7 @@ returns-in_default-clause-engine c = rw (← c.self.view_is) (ap (λ (t : Outcom
 pub returns-in_default-clause-reply : goal.returns-in_default-clause-reply
 returns-in_default-clause-reply c = rw (← c.self.view_is) (ap (λ (t : Outcome). t.reply) (unset c))
 
--- of a serial with an answer the token has seen what the code computes
+-- for a serial with an answer, the token has seen what the code computes
 answered : (c : goal.After-see)
     → record { engine = see (the_view c.self.inside) c.args.token c.max-seen.result; reply = Seen c.max-seen.result }
     ≡ learn (the_view c.self.inside) c.args.token c.args.client c.args.serial

@@ -8,7 +8,7 @@ use Rattle.world.specs.contracts.engine.Engine.{the_view}
 use Rattle.world.proofs.SingleSteps.{read_mapped, poll-there}
 use Rattle.world.proofs.engine.Engine.poll.Goals as goal
 
--- the client that is there reads the answer, and has seen what was published with it
+-- the client that exists reads the answer, and has seen what was published with it
 polled : (c : goal.After-self-1) →
     let E : TheEngine = the_view c.self.inside in
     let k : TheClient = client_of c.index_mut-k.result.now in

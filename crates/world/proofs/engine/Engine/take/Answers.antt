@@ -1,4 +1,4 @@
--- The oldest submission is handled; where that stops halfway the submission is put back at the front, and the replica alone has changed.
+-- The oldest submission is handled; if that stops halfway, the submission is put back at the front, and only the replica has changed.
 use Rattle.std.proofs.Common.{◌≡◌, ◌||◌, false, nat_le, inl, inr, ◌∷◌, length, map, refl, sym, ap, ◌∙◌, subst, arith}
 use Rattle.std.proofs.Common.{eqb-true}
 use Rattle.std.proofs.lemmas.List.{length-map}

@@ -1,4 +1,4 @@
--- The takes that are left lead where all takes lead.
+-- The takes that are left lead to where all takes lead.
 use Rattle.std.proofs.Common.{◌≡◌, ◌-◌}
 use Rattle.semantics.specs.WriteSteps.{take_for}
 use Rattle.world.specs.Engines.{IsReachedEngine}
