@@ -35,6 +35,7 @@ pub fn play<R: Wait>(
         "apart" => apart(rt, alloc, hands, count),
         "heads" => meet(rt, alloc, hands, Work::Heads, count),
         "ends" => meet(rt, alloc, hands, Work::Ends, count),
+        "depths" => meet(rt, alloc, hands, Work::Depths, count),
         "typing" => alone(rt, alloc, hands, Work::Typing, 1, count),
         "saves" => alone(rt, alloc, hands, Work::Saves, 256, count),
         "lost" => lose(rt, alloc, hands, count),
@@ -113,7 +114,7 @@ fn apart<R: Wait>(rt: &R, alloc: Global, hands: &mut Hands, count: u32) -> Resul
     Ok(())
 }
 
-/// Two engines write into a list apart, and one takes what the other wrote.
+/// Two engines write into a list or a map apart, and one takes what the other wrote.
 fn meet<R: Wait>(
     rt: &R,
     alloc: Global,

@@ -79,3 +79,13 @@ pub fn leaf(alloc: Global, number: u32) -> Result<Expr, Refusal> {
     let name = numbered(alloc, "option-", number)?;
     place.get(alloc, name.as_str())
 }
+
+/// A field of the one map that is seven keys deep.
+pub fn deep_leaf(alloc: Global, number: u32) -> Result<Expr, Refusal> {
+    let mut place = field(alloc, "config")?;
+    for level in 0..6 {
+        place = place.get(alloc, LEVELS[level])?;
+    }
+    let name = numbered(alloc, "option-", number)?;
+    place.get(alloc, name.as_str())
+}

@@ -2,7 +2,7 @@
 //! and go.
 
 use crate::draws::Hands;
-use crate::places::{drawn_value, field, item, leaf, numbered};
+use crate::places::{deep_leaf, drawn_value, field, item, leaf, numbered};
 use crate::showing::{count_items, show_fields, show_screen};
 use crate::stage::Stage;
 use engine::{Command, EngineName, Refusal, Val};
@@ -27,6 +27,8 @@ pub enum Work {
     Heads,
     /// Items of a list, each last.
     Ends,
+    /// Fields of one map, eight keys deep.
+    Depths,
 }
 
 /// Writes some commands.
@@ -49,6 +51,7 @@ pub fn write<N: EngineName, R: Wait>(
         Work::Fields => write_fields(rt, alloc, stage, hands, count)?,
         Work::Heads => write_items(rt, alloc, stage, hands, count, false)?,
         Work::Ends => write_items(rt, alloc, stage, hands, count, true)?,
+        Work::Depths => write_depths(rt, alloc, stage, hands, count)?,
     }
     stage.settle(rt, alloc, hands)
 }
@@ -139,6 +142,22 @@ fn write_fields<N: EngineName, R: Wait>(
         } else {
             Command::Assign(place, drawn_value(alloc, hands)?)
         };
+        stage.submit(rt, alloc, hands, command)?;
+    }
+    Ok(())
+}
+
+/// Fields of one map, eight keys deep: each write's id stands at every map on its way.
+fn write_depths<N: EngineName, R: Wait>(
+    rt: &R,
+    alloc: Global,
+    stage: &mut Stage<N>,
+    hands: &mut Hands,
+    count: u32,
+) -> Result<(), Refusal> {
+    for _ in 0..count {
+        let place = deep_leaf(alloc, hands.below(1_000_000))?;
+        let command = Command::Assign(place, drawn_value(alloc, hands)?);
         stage.submit(rt, alloc, hands, command)?;
     }
     Ok(())
