@@ -4,6 +4,7 @@ pub mod Entries
 pub mod Kinds
 pub mod Held
 pub mod RisingCounters
+pub mod Marks
 pub mod ReplicaColumns
 pub mod HeldTags
 pub mod Keys

@@ -18,6 +18,9 @@ use std::marker::Model;
 /// How many ids stand in the list before a replica gets a column.
 const FEW: usize = 512;
 
+/// How many hints there are.
+const HINTS: usize = 256;
+
 /// A finite map from ids to numbers, for ids of which those of each replica come in ascending order, and which are never removed.
 ///
 /// From the 512th entry on each replica has a column, to which an id that is its greatest is pushed. What doesn't fit goes into a list: an
@@ -29,8 +32,8 @@ const FEW: usize = 512;
 pub struct Homes {
     list: Numbers,
     columns: Vec<NumberColumn>,
-    /// The place of the column that the last entry went to.
-    last: usize,
+    /// The places at which the columns of replicas are looked for first, by the remainders of their numbers; none before the first column.
+    hints: Vec<usize>,
     /// The replica whose column the next `reserve_one` makes, or extends.
     wanted: Option<ReplicaId>,
 }
@@ -55,7 +58,7 @@ impl Homes {
         Homes {
             list: Numbers::new(alloc),
             columns: Vec::new(alloc),
-            last: 0,
+            hints: Vec::new(alloc),
             wanted: None,
         }
     }
@@ -64,7 +67,7 @@ impl Homes {
     pub fn get(&self, id: &OpId) -> Option<usize>
         ensures { result ≡ find id_cmp id.now self.now.entries }
     {
-        match number_in(&self.columns, self.last, id) {
+        match number_in(&self.columns, &self.hints, id) {
             Some(number) => Some(number),
             None => self.list.get(id),
         }
@@ -81,7 +84,7 @@ impl Homes {
     {
         self.list.reserve_one()?;
         if let Some(replica) = self.wanted {
-            reserve_column(&mut self.columns, self.last, replica)?;
+            reserve_column(&mut self.columns, &mut self.hints, replica)?;
             self.wanted = None;
         }
         Ok(())
@@ -96,9 +99,9 @@ impl Homes {
         ensures room { self.old.room ≤ self.new.room + 1 }
     {
         let replica = id.replica;
-        let place = place_of(&self.columns, self.last, replica);
+        let place = place_of(&self.columns, &self.hints, replica);
         let wants = put_number(&mut self.list, &mut self.columns, place, id, number);
-        self.note(place, wants, replica);
+        self.note(wants, replica);
     }
 
     /// Sets the number of an id that is there. Allocates nothing. A binary search, and one write.
@@ -107,28 +110,38 @@ impl Homes {
         ensures entries { self.new.entries ≡ put id_cmp id.now number self.old.entries }
         ensures room { self.new.room ≡ self.old.room }
     {
-        let place = place_of(&self.columns, self.last, id.replica);
+        let place = place_of(&self.columns, &self.hints, id.replica);
         set_number(&mut self.list, &mut self.columns, place, id, number);
     }
 
-    /// Notes where the last entry went, and whether its replica's column should be made or extended.
-    fn note(&mut self, place: Option<usize>, wants: bool, replica: ReplicaId)
+    /// Notes whether the replica's column should be made or extended.
+    fn note(&mut self, wants: bool, replica: ReplicaId)
         ensures { self.new ≡ self.old }
     {
-        self.last = place.unwrap_or(self.columns.len());
         if wants && self.list.len() >= FEW {
             self.wanted = Some(replica);
         }
     }
 }
 
-/// The place of a replica's column, or `None` if it has none. Looks at the last one used first, then at each.
-fn place_of(columns: &[NumberColumn], last: usize, replica: ReplicaId) -> Option<usize>
+/// Where the hint for a replica stands: the same for all whose numbers leave this remainder.
+fn slot_of(replica: ReplicaId) -> usize
+    ensures { result < 256 }
+{
+    replica.number() as usize % HINTS
+}
+
+/// The place of a replica's column, or `None` if it has none. Looks first where the hint says, then at each.
+fn place_of(columns: &[NumberColumn], hints: &[usize], replica: ReplicaId) -> Option<usize>
     ensures { MatchOption result (IsFalse (is_member (numbering columns.now) replica))
         (λ place. NumbersStandAt columns.now replica place) }
 {
-    if last < columns.len() && columns[last].replica == replica {
-        return Some(last);
+    let slot = slot_of(replica);
+    if slot < hints.len() {
+        let place = hints[slot];
+        if place < columns.len() && columns[place].replica == replica {
+            return Some(place);
+        }
     }
     search(columns, replica)
 }
@@ -147,14 +160,29 @@ fn search(columns: &[NumberColumn], replica: ReplicaId) -> Option<usize>
 }
 
 /// The number of an id in the columns.
-fn number_in(columns: &[NumberColumn], last: usize, id: &OpId) -> Option<usize>
+fn number_in(columns: &[NumberColumn], hints: &[usize], id: &OpId) -> Option<usize>
     requires { AreNumberColumns columns.now }
     ensures { result ≡ find id_cmp id.now (numbered columns.now) }
 {
-    match place_of(columns, last, id.replica) {
+    match place_of(columns, hints, id.replica) {
         None => None,
         Some(place) => columns[place].get(id.counter),
     }
+}
+
+/// Notes the place of a replica's column.
+///
+/// # Errors
+/// `AllocError` if allocation fails.
+fn note_hint(hints: &mut Vec<usize>, replica: ReplicaId, place: usize) -> Result<(), AllocError> {
+    if hints.is_empty() {
+        hints.resize(HINTS, 0)?;
+    }
+    let slot = slot_of(replica);
+    if slot < hints.len() {
+        hints[slot] = place;
+    }
+    Ok(())
 }
 
 /// Makes an empty column of a replica that has none, or room in the one that it has.
@@ -163,16 +191,17 @@ fn number_in(columns: &[NumberColumn], last: usize, id: &OpId) -> Option<usize>
 /// `AllocError` if allocation fails.
 fn reserve_column(
     columns: &mut Vec<NumberColumn>,
-    last: usize,
+    hints: &mut Vec<usize>,
     replica: ReplicaId,
 ) -> Result<(), AllocError>
     requires { AreNumberColumns columns.old.items }
     ensures same { numbered columns.new.items ≡ numbered columns.old.items }
     ensures columns { AreNumberColumns columns.new.items }
 {
-    match place_of(columns, last, replica) {
+    match place_of(columns, hints, replica) {
         Some(place) => columns[place].reserve_one(),
         None => {
+            note_hint(hints, replica, columns.len())?;
             columns.push(NumberColumn::with_room(*columns.allocator(), replica)?)?;
             Ok(())
         }

@@ -17,16 +17,21 @@ use crate::entry::Entry;
 use crate::held_tags::HeldTags;
 use crate::kinds::Kinds;
 use crate::tag_columns::FEW;
+use crate::tag_list::TagList;
 use cursor::Tag;
 use ids::OpId;
 use std::alloc::{AllocError, Global};
 use std::marker::Model;
 use version::VersionVector;
 
+/// How many ids that replicas write in turn stand in a list before any go into columns.
+const MANY: usize = 16_384;
+
 /// The presence of an element: the ids that keep it visible, each with its tag, and the kinds of value that are present.
 ///
 /// As in a register, a single entry is inline, and two or more are in a box, which also has the kinds of value; so a presence is 32 bytes.
-/// From the 512th entry on, new ids go into columns by replica, of eight bytes an id.
+/// From the 512th entry on, new ids go into columns by replica, of eight bytes an id, as soon as two of one replica come together; where
+/// replicas write in turn, from the 16,384th on.
 ///
 /// Contracts see the entries in ascending order of id, the index of each entry's replica in the table, and for how many more entries there
 /// is room.
@@ -118,7 +123,7 @@ impl Presence {
             HeldTags::Single(_) => self.held.spread(self.alloc),
             HeldTags::Many(list) => {
                 list.reserve_one()?;
-                if list.len() < FEW {
+                if !wants_columns(list) {
                     return Ok(());
                 }
                 self.held.widen(self.alloc)
@@ -173,4 +178,22 @@ impl Presence {
             HeldTags::Wide(columns) => columns.clear(vector),
         }
     }
+}
+
+/// Whether a list is so long that ids go into columns: from 512 on where the last two are of one replica, and else from 16,384 on, since
+/// ids that many replicas write in turn go to the end of a list as cheaply. Looks at each sixteenth id alone.
+fn wants_columns(list: &TagList) -> bool {
+    let count = list.len();
+    if count < FEW || count % 16 != 0 {
+        return false;
+    }
+    count >= MANY || ends_in_a_run(list, count)
+}
+
+/// Whether the last two of so many entries are of one replica.
+fn ends_in_a_run(list: &TagList, count: usize) -> bool
+    requires two { 1 < count }
+    requires all { count ≡ length list.now.entries }
+{
+    list.at(count - 1).0.replica == list.at(count - 2).0.replica
 }

@@ -11,6 +11,7 @@ ghost use Rattle.semantics.specs.Ids.{OpId as TheId, id_cmp};
 ghost use Rattle.version.specs.Columns.{is_uncovered};
 ghost use Rattle.columns.specs.Kinds.{has_kind};
 ghost use Rattle.columns.specs.Entries.{Entries};
+ghost use Rattle.columns.specs.Marks.{AreMarked, is_set};
 ghost use Rattle.columns.specs.Rank.{has_key, keys_of};
 ghost use Rattle.columns.specs.declared.replica_column.ReplicaColumn.{ReplicaColumn as TheColumn};
 ghost use Rattle.cursor.specs.declared.tag.Tag.{Tag};
@@ -32,15 +33,39 @@ const MOST: usize = 4_611_686_018_427_387_904;
 /// Replicas with an index below this one have a place at which their column is looked for first.
 const PLACES: usize = 1_024;
 
-/// The place of a replica's column, or `None` if it has none. Looks first where the index of the replica says, then at each column.
+/// How many marks there are.
+pub const MARKS: usize = 256;
+
+/// Whether the mark of the replica is set: without it, the replica has no column.
+fn is_marked(marks: &[bool; MARKS], replica: ReplicaId) -> bool
+    ensures { result ≡ is_set marks.now replica }
+{
+    marks[replica.number() as usize % MARKS]
+}
+
+/// Sets the mark of the replica, and so of all whose numbers leave the same remainder.
+fn mark(marks: &mut [bool; MARKS], replica: ReplicaId)
+    ensures own { IsTrue (is_set marks.new replica) }
+    ensures kept { (p : ℕ) → IsTrue (is_set marks.old p) → IsTrue (is_set marks.new p) }
+{
+    marks[replica.number() as usize % MARKS] = true;
+}
+
+/// The place of a replica's column, or `None` if it has none. Looks at the replica's mark first, then where its index says, then at each
+/// column.
 pub fn place_of(
     columns: &[ReplicaColumn],
     places: &[usize],
+    marks: &[bool; MARKS],
     replica: ReplicaId,
     index: usize,
 ) -> Option<usize>
+    requires { AreMarked marks.now (replicas_of columns.now) }
     ensures { MatchOption result (IsFalse (is_member (replicas_of columns.now) replica)) (λ place. IsColumnAt columns.now replica place) }
 {
+    if !is_marked(marks, replica) {
+        return None;
+    }
     if index < places.len() {
         let place = places[index];
         if place < columns.len() && columns[place].replica == replica {
@@ -91,16 +116,19 @@ pub fn reserve_column(
     list: &TagList,
     columns: &mut Vec<ReplicaColumn>,
     places: &mut Vec<usize>,
+    marks: &mut [bool; MARKS],
     replica: ReplicaId,
     index: usize,
     tag: Tag,
 ) -> Result<(), AllocError>
+    requires { AreMarked marks.old (replicas_of columns.old.items) }
+    ensures marked { AreMarked marks.new (replicas_of columns.new.items) }
     ensures standing { standing columns.new.items ≡ standing columns.old.items }
     ensures apart { AreApart list.now columns.old.items → AreApart list.now columns.new.items }
     ensures up_to { All (IsUpTo (all_standing list.now columns.old.items)) columns.old.items
         → All (IsUpTo (all_standing list.now columns.old.items)) columns.new.items }
 {
-    match place_of(columns, places, replica, index) {
+    match place_of(columns, places, marks, replica, index) {
         Some(place) => columns[place].reserve_one(),
         None => {
             note_place(places, index, columns.len())?;
@@ -113,6 +141,7 @@ pub fn reserve_column(
                 greatest,
             )?;
             columns.push(column)?;
+            mark(marks, replica);
             Ok(())
         }
     }
@@ -189,6 +218,7 @@ pub fn put_standing(
         ≡ put id_cmp id (tag, index_at id index (all_standing list.old columns.old)) (all_standing list.old columns.old) }
     ensures counted { AreCounted list.new columns.new count.new }
     ensures room { list.old.room ≤ list.new.room + 1 }
+    ensures replicas { replicas_of columns.new ≡ replicas_of columns.old }
 {
     match place {
         None => {
@@ -226,6 +256,7 @@ fn put_behind(
         ≡ put id_cmp id (tag, index_at id index (all_standing list.old columns.old)) (all_standing list.old columns.old) }
     ensures counted { AreCounted list.new columns.new count.new }
     ensures room { list.old.room ≤ list.new.room + 1 }
+    ensures replicas { replicas_of columns.new ≡ replicas_of columns.old }
 {
     prove!(list.len() <= usize::MAX);
     let before = *count;
@@ -270,6 +301,7 @@ fn put_late(
         ≡ put id_cmp id (tag, index_at id index (all_standing list.old columns.old)) (all_standing list.old columns.old) }
     ensures counted { AreCounted list.new columns.new count.new }
     ensures room { list.old.room ≤ list.new.room + 1 }
+    ensures replicas { replicas_of columns.new ≡ replicas_of columns.old }
 {
     prove!(list.len() <= usize::MAX);
     let column = &mut columns[place];

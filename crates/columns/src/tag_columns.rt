@@ -16,7 +16,7 @@ ghost use Rattle.columns.specs.Kinds.{AreKinds};
 use crate::kinds::Kinds;
 use crate::replica_column::ReplicaColumn;
 use crate::replica_columns::{
-    clear_columns, kinds_of, merge, place_of, put_standing, reserve_column,
+    MARKS, clear_columns, kinds_of, merge, place_of, put_standing, reserve_column,
 };
 use crate::tag_list::TagList;
 use cursor::Tag;
@@ -27,6 +27,9 @@ use version::VersionVector;
 
 /// How many ids stand in the list before a replica gets a column.
 pub const FEW: usize = 512;
+
+/// How many more have to stand there for each column, so that hundreds of replicas with a few ids each get few columns.
+const EACH: usize = 16;
 
 /// The column that the next `reserve_one` makes, or extends.
 #[derive(Clone, Copy, Debug)]
@@ -41,6 +44,9 @@ struct Wanted {
 /// An id that is the greatest of its replica is pushed to the replica's column. What doesn't fit goes into the list: an id that isn't the
 /// greatest, one with another tag or index, and the first one, for which there is no column yet.
 ///
+/// A replica's column is found by its mark (without one it has none, and nothing is searched) and the hint at its index. So among hundreds
+/// of replicas that write in turn an id costs about what it costs in one list.
+///
 /// Contracts see what those of `TagList` see. The room is that of the list: what a full column can't take goes into the list.
 #[derive(Debug, Drop)]
 pub struct TagColumns {
@@ -50,6 +56,8 @@ pub struct TagColumns {
     count: usize,
     /// The places at which the columns of replicas are looked for first, by their indices in the table.
     places: Vec<usize>,
+    /// Which replicas may have a column.
+    marks: [bool; MARKS],
     wanted: Option<Wanted>,
 }
 
@@ -57,13 +65,14 @@ impl Model for TagColumns {
     ghost use Rattle.std.specs.Prelude.{◌≡◌, ◌≤◌, length};
     ghost use Rattle.cursor.specs.declared.tag.Tag.{Tag};
     ghost use Rattle.columns.specs.Entries.{Entries};
-    ghost use Rattle.columns.specs.ReplicaColumns.{AreCounted, with_columns};
+    ghost use Rattle.columns.specs.Marks.{AreMarked};
+    ghost use Rattle.columns.specs.ReplicaColumns.{AreCounted, replicas_of, with_columns};
 
     ghost Value = { Entries Tag };
 
     ghost view = { λ t. with_columns t.list t.columns.items };
 
-    ghost invariant = { λ t. AreCounted t.list t.columns.items t.count };
+    ghost invariant = { λ t. AreCounted t.list t.columns.items t.count × AreMarked t.marks (replicas_of t.columns.items) };
 }
 
 impl TagColumns {
@@ -76,6 +85,7 @@ impl TagColumns {
             columns: Vec::new(alloc),
             count: 0,
             places: Vec::new(alloc),
+            marks: [false; MARKS],
             wanted: None,
         }
     }
@@ -91,6 +101,7 @@ impl TagColumns {
             columns: Vec::new(alloc),
             count: 0,
             places: Vec::new(alloc),
+            marks: [false; MARKS],
             wanted: None,
         };
     }
@@ -146,6 +157,7 @@ impl TagColumns {
                 &self.list,
                 &mut self.columns,
                 &mut self.places,
+                &mut self.marks,
                 replica,
                 index,
                 tag,
@@ -168,7 +180,8 @@ impl TagColumns {
     {
         let replica = id.replica;
         let wants = self.put_entry(id, index, tag);
-        if wants && self.list.len() >= FEW {
+        let enough = self.columns.len().saturating_mul(EACH).saturating_add(FEW);
+        if wants && self.list.len() >= enough {
             self.want(Wanted {
                 replica,
                 index,
@@ -206,7 +219,7 @@ impl TagColumns {
         ensures room { self.old.room ≤ self.new.room + 1 }
     {
         prove!(self.list.len() <= usize::MAX);
-        let place = place_of(&self.columns, &self.places, id.replica, index);
+        let place = place_of(&self.columns, &self.places, &self.marks, id.replica, index);
         put_standing(
             &mut self.list,
             &mut self.columns,

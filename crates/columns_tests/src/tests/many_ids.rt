@@ -197,6 +197,23 @@ fn presences_of_many_ids_are_sorted_lists(rt: HostRuntime) -> Result<(), Fail> {
     Ok(())
 }
 
+/// The counts on both sides of where ids that replicas write in turn go into columns.
+const COUNTS_IN_TURN: [u64; 4] = [16_383, 16_384, 16_385, 16_500];
+
+#[test]
+fn presences_of_ids_in_turn_are_sorted_lists(rt: HostRuntime) -> Result<(), Fail> {
+    for count in COUNTS_IN_TURN {
+        assert_left(
+            &rt,
+            rt.alloc(),
+            Order::InTurn,
+            count,
+            [count / 3, count / 4, 1],
+        )?;
+    }
+    Ok(())
+}
+
 #[test]
 fn clears_leave_what_a_vector_does_not_cover(rt: HostRuntime) -> Result<(), Fail> {
     for order in ORDERS {

@@ -5,7 +5,7 @@ use Rattle.std.specs.FinMap.{put}
 use Rattle.columns.specs.ReplicaColumns.{IsSameColumn, all_standing, index_at}
 use Rattle.columns.specs.declared.replica_column.ReplicaColumn.{ReplicaColumn}
 use Rattle.columns.proofs.LatePuts.{listed_counted, listed_standing}
-use Rattle.columns.proofs.StandingPuts.{counted_in_column, put_in_column, replica_at}
+use Rattle.columns.proofs.StandingPuts.{counted_in_column, put_in_column, replica_at, replicas_written}
 use Rattle.columns.proofs.UpTo.{goes_behind, not_listed, up_to_written}
 use Rattle.columns.proofs.replica_columns.put_behind.Goals as goal
 
@@ -83,3 +83,22 @@ returns-clause-counted c =
     (up_to_written (all_standing L cs) (all_standing L (set cs i d)) c.args.id
     (column.tag, index_at c.args.id c.args.index (all_standing L cs)) is cs a.up_to i column d c.requires.inside read a.apart.distinct
     c.requires.place.is same.replica (omega (arith, greater, own)) (omega (arith, own))) a (c.if-not-fits.ensures.few refl)
+
+pub returns-then-not-fits-clause-replicas : goal.returns-then-not-fits-clause-replicas
+returns-then-not-fits-clause-replicas c =
+    let cs = c.args.columns.now in
+    let i = c.args.place in
+    let column = get_or cs i c.index-columns-place.result in
+    let read : column ≡ get_or cs i column = ap (get_or cs i) c.index-columns-place.is in
+    replicas_written cs i column c.raise.new.self c.args.id c.requires.inside read c.requires.counted.apart.distinct c.requires.place.is
+    c.raise.ensures.same (replica_at cs i c.args.id.replica column c.requires.place.is read)
+
+pub returns-clause-replicas : goal.returns-clause-replicas
+returns-clause-replicas c =
+    let cs = c.args.columns.now in
+    let i = c.args.place in
+    let column = get_or cs i c.index-columns-place.result in
+    let read : column ≡ get_or cs i column = ap (get_or cs i) c.index-columns-place.is in
+    replicas_written cs i column c.push_reserved.new.self c.args.id c.requires.inside read c.requires.counted.apart.distinct
+    c.requires.place.is (same_then column c.raise.new.self c.push_reserved.new.self c.raise.ensures.same c.push_reserved.ensures.same)
+    (replica_at cs i c.args.id.replica column c.requires.place.is read)

@@ -1,7 +1,7 @@
 use Rattle.std.proofs.Common.{◌≡◌, ◌∙◌, ◌+◌, ◌-◌, sym, ap, cond, length, arith, get_or, set}
 use Rattle.columns.proofs.ByReplica.{length_written}
 use Rattle.columns.specs.ReplicaColumns.{all_standing, index_at}
-use Rattle.columns.proofs.StandingPuts.{counted_late, put_missing, put_taken, replica_at}
+use Rattle.columns.proofs.StandingPuts.{counted_late, put_missing, put_taken, replica_at, replicas_written}
 use Rattle.columns.proofs.UpTo.{up_to_written}
 use Rattle.columns.proofs.replica_columns.put_late.Goals as goal
 
@@ -89,3 +89,21 @@ returns-else-remove-clause-counted c =
     (c.args.tag, index_at c.args.id c.args.index (all_standing L cs)) is cs a.up_to i column d c.requires.inside read a.apart.distinct
     c.requires.place.is same.replica (omega (arith, greatest)) (omega (arith, greatest, seen))) a
     (ap (λ b. length d.counters.items + cond b 1 0) (sym c.if-remove.false) ∙ c.remove.ensures.gone) (omega arith)
+
+pub returns-then-remove-clause-replicas : goal.returns-then-remove-clause-replicas
+returns-then-remove-clause-replicas c =
+    let cs = c.args.columns.now in
+    let i = c.args.place in
+    let column = get_or cs i c.index-columns-place.result in
+    let read : column ≡ get_or cs i column = ap (get_or cs i) c.index-columns-place.is in
+    replicas_written cs i column c.remove.new.self c.args.id c.requires.inside read c.requires.counted.apart.distinct c.requires.place.is
+    c.remove.ensures.same (replica_at cs i c.args.id.replica column c.requires.place.is read)
+
+pub returns-else-remove-clause-replicas : goal.returns-else-remove-clause-replicas
+returns-else-remove-clause-replicas c =
+    let cs = c.args.columns.now in
+    let i = c.args.place in
+    let column = get_or cs i c.index-columns-place.result in
+    let read : column ≡ get_or cs i column = ap (get_or cs i) c.index-columns-place.is in
+    replicas_written cs i column c.remove.new.self c.args.id c.requires.inside read c.requires.counted.apart.distinct c.requires.place.is
+    c.remove.ensures.same (replica_at cs i c.args.id.replica column c.requires.place.is read)

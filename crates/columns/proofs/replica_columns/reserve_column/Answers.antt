@@ -5,6 +5,8 @@ use Rattle.columns.proofs.UpTo.{up_to_push, up_to_set_same}
 use Rattle.std.specs.List.{All}
 use Rattle.columns.specs.declared.replica_column.ReplicaColumn.{ReplicaColumn}
 use Rattle.columns.proofs.WrittenColumns.{apart_push, apart_set_same, same_column, standing_push, standing_set_same}
+use Rattle.columns.specs.Marks.{AreMarked}
+use Rattle.std.proofs.Math.Seq.{map-set_same}
 use Rattle.columns.proofs.replica_columns.reserve_column.Goals as goal
 
 pub returns-in-Some-clause-standing : goal.returns-in-Some-clause-standing
@@ -60,3 +62,12 @@ returns-in_ok-push-in-None-clause-up_to c all =
     subst (All (IsUpTo (all_standing L cs))) (sym c.in_ok-push-in-None.ensures.items)
     (up_to_push L cs column none (λ q mine there. (let h = c.greatest_of-greatest.ensures q (mine ∙ own) there in
     omega (arith, h, greatest))) all)
+
+pub returns-in-Some-clause-marked : goal.returns-in-Some-clause-marked
+returns-in-Some-clause-marked c =
+    let cs = c.args.columns.now.items in
+    let column = c.index_mut.result.now in
+    subst (AreMarked c.args.marks.now)
+    (sym (map-set_same (λ (x : ReplicaColumn). x.replica) cs c.in-Some.place c.reserve_one.new.self column
+    (c.reserve_one.ensures.same.replica ∙ ap (λ (x : ReplicaColumn). x.replica) c.index_mut.ensures.value)))
+    c.requires

@@ -19,6 +19,6 @@ returns c = λ t.
     ∙ ap (λ (es : List (OpId × Tag)). stands_as t es || stands_in t (standing cs))
     (sym (tags_with L.entries L.indices c.len.ensures.indexed))
     ∙ ap (λ b. b || stands_in t (standing cs)) (stands-tags t listed)
-    ∙ sym (stands-each t (standing cs) listed (are_new L cs c.self.invariant.apart))
+    ∙ sym (stands-each t (standing cs) listed (are_new L cs c.self.invariant.0.apart))
     ∙ sym (stands-tags t (all_standing L cs))
     ∙ ap (λ (m : Entries Tag). stands_as t m.entries) c.self.view_is

@@ -16,9 +16,9 @@ returns-clause-length c =
     let cs = c.self.inside.columns.items in
     let rising : IsTrue (is_sorted id_cmp (with_indices L.entries L.indices)) = sorted_with L.entries L.indices c.len.ensures.indexed
     ∙ c.len.ensures.rising in
-    let all = length-each (standing cs) (with_indices L.entries L.indices) rising (are_new L cs c.self.invariant.apart) in
+    let all = length-each (standing cs) (with_indices L.entries L.indices) rising (are_new L cs c.self.invariant.0.apart) in
     let long = length_with L.entries L.indices c.len.ensures.indexed in
-    let count = c.self.invariant.counted in
+    let count = c.self.invariant.0.counted in
     let listed = c.len.ensures.length in
     let tags : length (tags_of (all_standing L cs)) ≡ length (all_standing L cs) =
     length-map (all_standing L cs) (λ (e : OpId × Standing). (e.0, e.1.0)) in

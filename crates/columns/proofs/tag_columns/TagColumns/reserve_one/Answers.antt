@@ -34,15 +34,19 @@ kept N cs ds count same apart up_to a = record {
 }
 
 pub invariant_of-self-in_err-reserve_column : goal.invariant_of-self-in_err-reserve_column
-invariant_of-self-in_err-reserve_column c =
-    kept c.reserve_one.new.self c.self.inside.columns.items c.reserve_column.new.columns.items c.self.inside.count
-    c.reserve_column.ensures.standing c.reserve_column.ensures.apart c.reserve_column.ensures.up_to
-    (same_entries c.self.inside.list c.reserve_one.new.self c.self.inside.columns.items c.self.inside.count
-    c.reserve_one.ensures.entries c.reserve_one.ensures.indices c.self.invariant)
+invariant_of-self-in_err-reserve_column c = (
+  kept c.reserve_one.new.self c.self.inside.columns.items c.reserve_column.new.columns.items c.self.inside.count
+      c.reserve_column.ensures.standing c.reserve_column.ensures.apart c.reserve_column.ensures.up_to
+      (same_entries c.self.inside.list c.reserve_one.new.self c.self.inside.columns.items c.self.inside.count
+      c.reserve_one.ensures.entries c.reserve_one.ensures.indices c.self.invariant.0),
+  c.reserve_column.ensures.marked,
+)
 
 pub invariant_of-self-in-Some : goal.invariant_of-self-in-Some
-invariant_of-self-in-Some c =
-    kept c.reserve_one.new.self c.self.inside.columns.items c.reserve_column.new.columns.items c.self.inside.count
-    c.reserve_column.ensures.standing c.reserve_column.ensures.apart c.reserve_column.ensures.up_to
-    (same_entries c.self.inside.list c.reserve_one.new.self c.self.inside.columns.items c.self.inside.count
-    c.reserve_one.ensures.entries c.reserve_one.ensures.indices c.self.invariant)
+invariant_of-self-in-Some c = (
+  kept c.reserve_one.new.self c.self.inside.columns.items c.reserve_column.new.columns.items c.self.inside.count
+      c.reserve_column.ensures.standing c.reserve_column.ensures.apart c.reserve_column.ensures.up_to
+      (same_entries c.self.inside.list c.reserve_one.new.self c.self.inside.columns.items c.self.inside.count
+      c.reserve_one.ensures.entries c.reserve_one.ensures.indices c.self.invariant.0),
+  c.reserve_column.ensures.marked,
+)
