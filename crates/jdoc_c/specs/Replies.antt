@@ -1,5 +1,5 @@
 -- What documents and readers reply to lines.
-use Rattle.std.specs.Prelude.{◌≡◌, ◌⊎◌, ◌≤◌, ◌<◌, ℕ, false, List, [], length, None, Result, Ok, Err}
+use Rattle.std.specs.Prelude.{◌≡◌, ◌⊎◌, ◌≤◌, ◌<◌, ℕ, List, [], length, Result, Ok, Err}
 use Rattle.ids.specs.declared.refusal.Refusal.{Refusal}
 use Rattle.ids.specs.declared.refusal.Refusal.TheVariants.{BadLine}
 use Rattle.semantics.specs.Entries.{Entry}
@@ -23,20 +23,10 @@ Responds m line r n =
     ((length line ≤ most_line) × AnswersLine m line r n)
     ⊎ ((most_line < length line) × (r ≡ said.Denied BadLine) × (n ≡ m))
 
--- a history that is only read
-abbrev pub read_only : List Entry → Desk
-read_only G = record {
-  replica = record { own = 0; members = []; entries = G; waiting = []; dropped = 0 };
-  stored = 0;
-  held = None;
-  synced = None;
-  is_lost = false;
-}
-
 -- the response of a reader to what a line calls for: it answers questions and glances as a document does, and refuses everything else
 abbrev pub Reads : List Entry → Result call.Call Refusal → Response → Type 0
-Reads G (Ok (call.Ask q)) r = Asks (read_only G) q r
-Reads G (Ok (call.Glance steps depth elements)) r = Looks (read_only G) steps depth elements r
+Reads G (Ok (call.Ask q)) r = Asks G q r
+Reads G (Ok (call.Glance steps depth elements)) r = Looks G steps depth elements r
 Reads G (Ok _) r = r ≡ said.Denied BadLine
 Reads G (Err why) r = r ≡ said.Denied why
 

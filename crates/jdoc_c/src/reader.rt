@@ -5,17 +5,14 @@ ghost use Rattle.std.specs.Coded.{codes};
 ghost use Rattle.semantics.specs.Codes.{coded_element};
 ghost use Rattle.semantics.specs.WorldHistory.{BeginsWith};
 ghost use Rattle.followers.specs.Feeds.{ShowsWhatCame};
-ghost use Rattle.session.specs.replica.document.Documents.{asked_of};
-ghost use Rattle.serving.specs.Desks.{Asks, Looks};
 ghost use Rattle.jdoc_c.specs.declared.status.Status.TheVariants.{NoMemory, Unfit};
-ghost use Rattle.jdoc_c.specs.Replies.{ReadReply, ReadsLine, read_only};
+ghost use Rattle.jdoc_c.specs.Replies.{ReadReply, ReadsLine};
 
 use crate::status::Status;
 use calls::{Call, Response, read_call, write_response};
-use document::{Expr, Question};
 use followers::Follower;
 use ids::Refusal;
-use serving::MOST_LINE;
+use serving::{MOST_LINE, ask, glance};
 use std::alloc::{AllocError, Global};
 
 /// A reader of a document, which answers from what it has taken in.
@@ -67,50 +64,25 @@ impl Reader {
         if line.len() > MOST_LINE {
             return Ok(Response::Denied(Refusal::BadLine));
         }
+        let document = self.follower.document();
         match read_call(alloc, line) {
-            Ok(Call::Ask(question)) => self.ask(alloc, &question),
+            Ok(Call::Ask(question)) => ask(alloc, document, &question),
             Ok(
                 Call::Glance {
                     expression,
                     depth,
                     elements,
                 },
-            ) => self.glance(alloc, &expression, depth as usize, elements as usize),
+            ) => glance(
+                alloc,
+                document,
+                &expression,
+                depth as usize,
+                elements as usize,
+            ),
             Ok(_) => Ok(Response::Denied(Refusal::BadLine)),
             Err(Refusal::NoMemory) => Err(AllocError),
             Err(why) => Ok(Response::Denied(why)),
-        }
-    }
-
-    fn ask(&self, alloc: Global, question: &Question) -> Result<Response, AllocError>
-        ensures { IfOk result (Asks (read_only self.now.follower.document.entries) (asked_of question.now)) }
-    {
-        let length = self.follower.len() as u64;
-        match self.follower.document().ask(alloc, question) {
-            Ok(reading) => Ok(Response::Read(length, reading)),
-            Err(Refusal::NoMemory) => Err(AllocError),
-            Err(why) => Ok(Response::Refused(why, length)),
-        }
-    }
-
-    fn glance(
-        &self,
-        alloc: Global,
-        expression: &Expr,
-        depth: usize,
-        elements: usize,
-    ) -> Result<Response, AllocError>
-        ensures { IfOk result (Looks (read_only self.now.follower.document.entries) expression.now depth elements) }
-    {
-        let length = self.follower.len() as u64;
-        match self
-            .follower
-            .document()
-            .glance(alloc, expression, depth, elements)
-        {
-            Ok(glance) => Ok(Response::Glance(length, glance)),
-            Err(Refusal::NoMemory) => Err(AllocError),
-            Err(why) => Ok(Response::Refused(why, length)),
         }
     }
 }

@@ -7,7 +7,7 @@ use Rattle.ids.specs.declared.refusal.Refusal.TheVariants.{NoMemory}
 use Rattle.semantics.specs.Context.{doc}
 use Rattle.semantics.specs.DocumentAnswer.{lists_of}
 use Rattle.semantics.specs.Elements.{At, Element}
-use Rattle.semantics.specs.Entries.{applied}
+use Rattle.semantics.specs.Entries.{Entry, applied}
 use Rattle.semantics.specs.Glances.{glance_of, shown_by}
 use Rattle.semantics.specs.Handling.{DrainsTo}
 use Rattle.semantics.specs.Journals.{entries_from}
@@ -72,20 +72,20 @@ Writes m c r n =
     ⊎ ((why : Refusal) × (r ≡ said.Refused why (length_of m)) × (n ≡ m)
     × ((why ≡ NoMemory) ⊎ (make (applied m.replica.entries) m.replica.own c ≡ Err why)))
 
--- a question is answered according to the rules
-abbrev pub Asks : Desk → Asked → Response → Type 0
-Asks m q (said.Read seen reading) = (seen ≡ length_of m) × (said_by reading ≡ reading_of m.replica.entries q)
-Asks m q (said.Refused why seen) = (seen ≡ length_of m) × (reading_of m.replica.entries q ≡ AnsweredBy (TheRefused why))
-Asks m q _ = ⊥
+-- a question is answered according to the rules, of the whole history
+abbrev pub Asks : List Entry → Asked → Response → Type 0
+Asks G q (said.Read seen reading) = (seen ≡ length G) × (said_by reading ≡ reading_of G q)
+Asks G q (said.Refused why seen) = (seen ≡ length G) × (reading_of G q ≡ AnsweredBy (TheRefused why))
+Asks G q _ = ⊥
 
--- an element is shown according to the rules
-abbrev pub Looks : Desk → List Step → (depth elements : ℕ) → Response → Type 0
-Looks m steps depth elements (said.Glance seen g) = (seen ≡ length_of m)
-    × ((e : Element) × (resolve (lists_of (doc (applied m.replica.entries))) steps ≡ Ok (At e))
-    × (glance_in g ≡ glance_of (shown_by (doc (applied m.replica.entries))) depth elements e))
-Looks m steps depth elements (said.Refused why seen) = (seen ≡ length_of m)
-    × ((f : Element → TheAnswer) → answer_at f (resolve (lists_of (doc (applied m.replica.entries))) steps) ≡ TheRefused why)
-Looks m steps depth elements _ = ⊥
+-- an element is shown according to the rules, of the whole history
+abbrev pub Looks : List Entry → List Step → (depth elements : ℕ) → Response → Type 0
+Looks G steps depth elements (said.Glance seen g) = (seen ≡ length G)
+    × ((e : Element) × (resolve (lists_of (doc (applied G))) steps ≡ Ok (At e))
+    × (glance_in g ≡ glance_of (shown_by (doc (applied G))) depth elements e))
+Looks G steps depth elements (said.Refused why seen) = (seen ≡ length G)
+    × ((f : Element → TheAnswer) → answer_at f (resolve (lists_of (doc (applied G))) steps) ≡ TheRefused why)
+Looks G steps depth elements _ = ⊥
 
 -- the vector of all that was applied
 abbrev pub Greets : Desk → Response → Type 0
@@ -124,8 +124,8 @@ TakesIn m bundle r n = (x : Received) × (q : Replica) × IsReceipt m.replica bu
 -- the response to a call, and what it leaves
 abbrev pub Answers : Desk → call.Call → Response → Desk → Type 0
 Answers m (call.Write c) r n = Writes m c r n
-Answers m (call.Ask q) r n = Asks m q r × (n ≡ m)
-Answers m (call.Glance steps depth elements) r n = Looks m steps depth elements r × (n ≡ m)
+Answers m (call.Ask q) r n = Asks m.replica.entries q r × (n ≡ m)
+Answers m (call.Glance steps depth elements) r n = Looks m.replica.entries steps depth elements r × (n ≡ m)
 Answers m call.Hello r n = Greets m r × (n ≡ m)
 Answers m (call.Answer hello) r n = Sends m hello r × (n ≡ m)
 Answers m (call.Receive bundle) r n = TakesIn m bundle r n

@@ -1,18 +1,18 @@
 //! A document that answers calls, and saves what came of them.
 
 ghost use Rattle.std.specs.Prelude.{◌≡◌, length, IfOk, IsUtf8, OnErr};
-ghost use Rattle.session.specs.replica.document.Documents.{asked_of};
 ghost use Rattle.session.specs.replica.operation.Ops.{command_of};
 ghost use Rattle.calls.specs.Calls.{call_of};
 ghost use Rattle.calls.specs.declared.response.Response.TheVariants as said;
-ghost use Rattle.serving.specs.Desks.{Answers, AnswersLine, Asks, IsBundle, Looks, Sends, TakesIn, Writes, received_of};
+ghost use Rattle.serving.specs.Desks.{Answers, AnswersLine, IsBundle, Sends, TakesIn, Writes, received_of};
 
 mod opening;
 mod saving;
 
+use crate::answering::{ask, glance};
 use calls::{Call, RefusedLines, Response, StoppedLine, read_call};
 use ids::Refusal;
-use session::{Answered, Command, Expr, Question, Received, Session};
+use session::{Answered, Command, Received, Session};
 use std::alloc::{AllocError, Global};
 use std::marker::Model;
 use store::{Shelf, Store};
@@ -87,12 +87,18 @@ impl<S: Store> Desk<S> {
     {
         match call {
             Call::Write(command) => Ok(self.write(alloc, command)),
-            Call::Ask(question) => self.ask(alloc, &question),
+            Call::Ask(question) => ask(alloc, self.session.document(), &question),
             Call::Glance {
                 expression,
                 depth,
                 elements,
-            } => self.glance(alloc, &expression, depth as usize, elements as usize),
+            } => glance(
+                alloc,
+                self.session.document(),
+                &expression,
+                depth as usize,
+                elements as usize,
+            ),
             Call::Hello => Ok(Response::Hello(self.session.hello(alloc)?)),
             Call::Answer(hello) => self.answer_hello(alloc, hello.as_bytes()),
             Call::Receive(bundle) => Ok(self.receive(alloc, bundle.as_bytes())),
@@ -121,38 +127,6 @@ impl<S: Store> Desk<S> {
     {
         let received = self.session.receive(alloc, bundle);
         self.saved(alloc, response_of(&received))
-    }
-
-    fn ask(&self, alloc: Global, question: &Question) -> Result<Response, AllocError>
-        ensures { IfOk result (Asks self.now (asked_of question.now)) }
-    {
-        let length = self.session.len() as u64;
-        match self.session.document().ask(alloc, question) {
-            Ok(reading) => Ok(Response::Read(length, reading)),
-            Err(Refusal::NoMemory) => Err(AllocError),
-            Err(why) => Ok(Response::Refused(why, length)),
-        }
-    }
-
-    fn glance(
-        &self,
-        alloc: Global,
-        expression: &Expr,
-        depth: usize,
-        elements: usize,
-    ) -> Result<Response, AllocError>
-        ensures { IfOk result (Looks self.now expression.now depth elements) }
-    {
-        let length = self.session.len() as u64;
-        match self
-            .session
-            .document()
-            .glance(alloc, expression, depth, elements)
-        {
-            Ok(glance) => Ok(Response::Glance(length, glance)),
-            Err(Refusal::NoMemory) => Err(AllocError),
-            Err(why) => Ok(Response::Refused(why, length)),
-        }
     }
 
     /// What a peer lacks, of the operations that are on the shelf.

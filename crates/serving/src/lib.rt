@@ -4,12 +4,14 @@
 //! A `Desk` is a session and the shelf that keeps its journal; `serve` reads requests and writes replies until the input ends.
 #![tactic(auto)]
 
+mod answering;
 mod desk;
 mod lines;
 mod memory;
 mod starting;
 mod talk;
 
+pub use answering::{ask, glance};
 pub use desk::Desk;
 pub use lines::{Found, MOST_LINE, next_line};
 pub use memory::Memory;
