@@ -3,6 +3,7 @@
 ghost use Rattle.std.specs.Prelude.{◌≡◌, ◌↔◌, ◌≤◌, ◌<◌, ◌+◌, ◌&&◌, ℕ, List, [], length, Some, nat_le, nat_lt, slice_get, slice_index};
 ghost use Rattle.std.specs.Prelude.{slice_index_or, IsTrue, OnOk, MatchResult};
 ghost use Rattle.std.specs.List.{All, filter, zip};
+ghost use Rattle.std.specs.Ordering.{is_gt};
 ghost use Rattle.std.specs.FinMap.{put, is_sorted};
 ghost use Rattle.ids.specs.Members.{AreDistinct};
 ghost use Rattle.semantics.specs.Ids.{OpId as TheId, id_cmp};
@@ -131,7 +132,17 @@ fn is_greatest<T>(entries: &Rings<Entry<T>>, id: OpId) -> bool
     if count == 0 {
         return true;
     }
-    id.cmp(&id_at(entries, count - 1)).is_gt()
+    is_above(id, id_at(entries, count - 1))
+}
+
+/// Whether an id is greater than another. Counters decide nearly always, so they are compared first, and alone.
+fn is_above(id: OpId, other: OpId) -> bool
+    ensures { result ≡ is_gt (id_cmp id other) }
+{
+    if id.counter != other.counter {
+        return id.counter > other.counter;
+    }
+    id.replica.number() > other.replica.number()
 }
 
 /// Whether the vector covers the id of an entry, whose index may be past the vector.

@@ -25,13 +25,13 @@ use std::marker::Model;
 use version::VersionVector;
 
 /// How many ids that replicas write in turn stand in a list before any go into columns.
-const MANY: usize = 16_384;
+const MANY: usize = 8_192;
 
 /// The presence of an element: the ids that keep it visible, each with its tag, and the kinds of value that are present.
 ///
 /// As in a register, a single entry is inline, and two or more are in a box, which also has the kinds of value; so a presence is 32 bytes.
 /// From the 512th entry on, new ids go into columns by replica, of eight bytes an id, as soon as two of one replica come together; where
-/// replicas write in turn, from the 16,384th on.
+/// replicas write in turn, from the 8,192th on.
 ///
 /// Contracts see the entries in ascending order of id, the index of each entry's replica in the table, and for how many more entries there
 /// is room.
@@ -180,7 +180,7 @@ impl Presence {
     }
 }
 
-/// Whether a list is so long that ids go into columns: from 512 on where the last two are of one replica, and else from 16,384 on, since
+/// Whether a list is so long that ids go into columns: from 512 on where the last two are of one replica, and else from 8,192 on, since
 /// ids that many replicas write in turn go to the end of a list as cheaply. Looks at each sixteenth id alone.
 fn wants_columns(list: &TagList) -> bool {
     let count = list.len();

@@ -170,6 +170,8 @@ impl TagColumns {
     /// Puts an entry where its id belongs; `index` is the index of the id's replica in the table. Replaces the id's tag, if it has one.
     ///
     /// Allocates nothing. One push if the id is the greatest of its replica and this has a column; else what `put` of `TagList` costs.
+    // Not inlined into `Presence::put`, so that a put into a list, which most are, saves no registers for it.
+    #[inline(never)]
     pub fn put(&mut self, id: OpId, index: usize, tag: Tag)
         requires { 0 < self.old.room }
         ensures entries { self.new.entries ≡ put id_cmp id tag self.old.entries }

@@ -198,7 +198,7 @@ fn presences_of_many_ids_are_sorted_lists(rt: HostRuntime) -> Result<(), Fail> {
 }
 
 /// The counts on both sides of where ids that replicas write in turn go into columns.
-const COUNTS_IN_TURN: [u64; 4] = [16_383, 16_384, 16_385, 16_500];
+const COUNTS_IN_TURN: [u64; 4] = [8_191, 8_192, 8_193, 8_300];
 
 #[test]
 fn presences_of_ids_in_turn_are_sorted_lists(rt: HostRuntime) -> Result<(), Fail> {

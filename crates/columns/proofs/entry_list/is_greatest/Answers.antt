@@ -24,20 +24,21 @@ returns g c =
     let rising : IsTrue (is_sorted id_cmp (as_set keys)) = rising_keys id_cmp es ∙ c.requires in
     let i : ℕ = length c.args.entries.now.items - 1 in
     let x = c.id_at.result in
-    let at_last : c.cmp.result ≡ id_cmp c.args.id (get_or keys i x) = c.cmp.ensures ∙ ap (id_cmp c.args.id) (sym (c.id_at.ensures x))
-    ∙ ap (λ n. id_cmp c.args.id (get_or keys (n - 1) x)) c.len-count.ensures.length in (
+    let at_last : c.is_above.result ≡ is_gt (id_cmp c.args.id (get_or keys i x)) = c.is_above.ensures
+    ∙ ap (λ y. is_gt (id_cmp c.args.id y)) (sym (c.id_at.ensures x))
+    ∙ ap (λ n. is_gt (id_cmp c.args.id (get_or keys (n - 1) x))) c.len-count.ensures.length in (
       λ t.
-          let is : id_cmp c.args.id (get_or keys i x) ≡ Greater = sym at_last ∙ greater c.cmp.result (sym c.is_gt.ensures ∙ t) in
+          let is : id_cmp c.args.id (get_or keys i x) ≡ Greater = greater (id_cmp c.args.id (get_or keys i x)) (sym at_last ∙ t) in
           let above : i < rank id_cmp c.args.id keys = rank_above id_cmp id_total c.args.id keys i x rising (omega arith) is in
           let most = rank_in id_cmp c.args.id keys in
           goes_here id_cmp id_total c.args.id keys (length c.args.entries.now.items) x rising (omega arith) (λ h. absurd (omega arith)),
-      λ goes. at_test (c.is_gt.result) refl (λ least. (
+      λ goes. at_test (c.is_above.result) refl (λ least. (
           let low : rank id_cmp c.args.id keys ≤ i = rank_le id_cmp c.args.id keys i x (omega arith)
-          (ap is_gt (sym at_last) ∙ sym c.is_gt.ensures ∙ least) in
+          (sym at_last ∙ least) in
           let ranked = goes.ranked in
           omega arith)),
     )
   where
-    at_test : (b : Bool) → c.is_gt.result ≡ b → (c.is_gt.result ≡ false → ⊥) → IsTrue c.is_gt.result
+    at_test : (b : Bool) → c.is_above.result ≡ b → (c.is_above.result ≡ false → ⊥) → IsTrue c.is_above.result
     at_test true is h = is
     at_test false is h = absurd (h is)
