@@ -1,4 +1,4 @@
-use Rattle.std.proofs.Common.{◌≡◌, ◌∙◌, ◌≤◌, ◌-◌, ◌||◌, refl, sym, ap, ℕ, zero, suc, Bool, true, false, IsTrue, List, [], ◌∷◌, length}
+use Rattle.std.proofs.Common.{◌≡◌, ◌∙◌, ◌≤◌, ◌-◌, ◌||◌, refl, ap, ℕ, zero, suc, Bool, true, false, IsTrue, List, [], ◌∷◌, length}
 use Rattle.std.proofs.Common.{slice_get}
 use Rattle.std.proofs.Common.{Some, arith, tests}
 use Rattle.std.specs.Ordering.{is_lt}
