@@ -9,9 +9,10 @@ ghost use Rattle.cli.specs.Runs.{AppendsReplies, IsFaultOf, IsStatus, TellsBadSc
 ghost use Rattle.scripts.specs.Runs.{IsReplyText};
 
 use crate::fault::{Fault, Status};
-use scripts::replies_to;
+use scripts::{Replies, replies_to};
 use std::alloc::Global;
 use std::io::{Read, Write};
+use std::mem;
 
 /// Reads a whole script, checks each line, runs its steps, and then prints the replies. A line of `faults` names a script that can't be
 /// read, or the first bad line. Returns the status with which the process exits.
@@ -33,7 +34,12 @@ pub fn run_script<R: Read, O: Write, F: Write>(
     ensures no_memory { result ≡ 4 → Appends (F.contents faults.old) (F.contents faults.new) (line_of fault.NoMemory) }
 {
     match replies_of(alloc, name, reader) {
-        Ok(replies) => print(out, replies.as_bytes()) as u8,
+        Ok(Replies { lines, script }) => {
+            let status = print(out, lines.as_bytes());
+            // The process ends next, and its memory with it: to free that piece by piece takes an eighth of the time of a long script.
+            mem::forget(script);
+            status as u8
+        }
         Err(fault) => fault.report(faults) as u8,
     }
 }
@@ -49,13 +55,13 @@ pub(crate) fn print<W: Write>(out: &mut W, text: &[u8]) -> Status
     Status::Done
 }
 
-/// The replies to a script's steps, as lines of JSON.
+/// The replies to a script's steps, as lines of JSON, and the script.
 fn replies_of<'a, R: Read>(
     alloc: Global,
     name: &'a str,
     reader: &mut R,
-) -> Result<String, Fault<'a>>
-    ensures ok { IfOk result (λ s. IfSome (R.remaining reader.old) (λ bytes. IsReplyText bytes (string_bytes s))) }
+) -> Result<Replies, Fault<'a>>
+    ensures ok { IfOk result (λ r. IfSome (R.remaining reader.old) (λ bytes. IsReplyText bytes (string_bytes r.lines))) }
     ensures err { IfErr result (IsFaultOf name.entry.now (R.remaining reader.old)) }
 {
     let mut bytes = Vec::new(alloc);

@@ -7,4 +7,5 @@ pub mod Replies
 pub mod Runs
 pub mod Scripts
 pub mod Steps
+pub mod Taken
 pub mod Written

@@ -6,13 +6,15 @@ mod error;
 mod exists;
 mod numbered_steps;
 mod numbers;
+mod pushes;
 mod replies;
 mod run;
 mod script;
 mod steps;
+mod tokens;
 
 pub use error::ScriptError;
 pub use replies::reply_lines;
-pub use run::replies_to;
+pub use run::{Replies, replies_to};
 pub use script::{Script, read_script};
 pub use steps::what_is_read_is_written_alike;

@@ -15,6 +15,7 @@ use crate::configuration::read_engines;
 use crate::error::ScriptError;
 use crate::steps::read_step;
 use ids::{Config, Refusal};
+use json::Scratch;
 use requests::Edition;
 use std::alloc::Global;
 use world::{Lines, World, WorldStep};
@@ -97,9 +98,10 @@ fn read_steps(
         ≡ Ok (map step_of v.items))
         (IsErrorOf (steps_left edition engines.now lines.old.taken lines.old.rest.now)) }
 {
+    let mut scratch = Scratch::new(alloc);
     let mut steps = Vec::new(alloc);
     while let Some(line) = lines.take_line() {
-        match read_step(alloc, edition, line.text, engines) {
+        match read_step(alloc, &mut scratch, edition, line.text, engines) {
             Ok(step) => steps.push(step)?,
             Err(why) => return Err(ScriptError::of_line(line.number, why)),
         }

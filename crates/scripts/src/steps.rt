@@ -15,23 +15,28 @@ ghost use Rattle.scripts.specs.Written.{ask_json, push_json};
 use crate::exists::is_there;
 use crate::numbered_steps::numbered_step_in;
 use crate::numbers::index_in;
+use crate::pushes::push_on;
 use ids::{Config, Refusal};
+use json::Scratch;
 use requests::{Edition, command_in, question_in};
 use serde_json::Value;
 use std::alloc::Global;
 use world::{Shared, WorldAct, WorldStep, json_of, phrase_in, text_in};
 
-/// The step on a line, whose engine, client and token exist.
+/// The step on a line, whose engine, client and token exist. The scratch is memory that reading needs, kept from line to line.
 pub fn read_step(
     alloc: Global,
+    scratch: &mut Scratch,
     edition: Edition,
     text: &[u8],
     engines: &[Config],
 ) -> Result<WorldStep, Refusal>
     ensures { IsRead step_meant result (step_line edition engines.now text.now) }
 {
-    let value = json_of(alloc, text)?;
-    let step = step_in(alloc, edition, &value)?;
+    let step = match push_on(alloc, scratch, text) {
+        Some(step) => step,
+        None => step_in(alloc, edition, &json_of(alloc, text)?)?,
+    };
     if !is_there(&step, engines) {
         return Err(Refusal::BadLine);
     }

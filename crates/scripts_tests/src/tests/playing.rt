@@ -11,7 +11,7 @@ pub const ONE: &str = r#"["world",[[1,[1],1,1,4,4,10]]]"#;
 /// The replies to a script that has no bad line.
 pub fn replies_well(rt: &impl Abort, alloc: Global, script: &str) -> String {
     match replies_to(alloc, script.as_bytes()) {
-        Ok(replies) => replies,
+        Ok(replies) => replies.lines,
         Err(why) => panic!(rt; "{why} in {script}"),
     }
 }
