@@ -22,8 +22,13 @@ pub fn reply_lines(alloc: Global, replies: &[WorldReply]) -> Result<String, Allo
     ensures { IfOk result (λ s. string_bytes s ≡ reply_text (map step_reply_of replies.now)) }
 {
     let mut lines = Vec::new(alloc);
+    // Each line is written to a buffer of its own and copied: the writer clears its buffer's spare capacity, which is large for a long
+    // text.
+    let mut line = Vec::new(alloc);
     for reply in replies {
-        lines = with_reply(alloc, lines, reply)?;
+        line.clear();
+        line = with_reply(alloc, line, reply)?;
+        lines.extend_from_slice(line.as_slice())?;
         lines.push(LINE_END)?;
     }
     let Ok(lines) = String::from_utf8(lines) else {
