@@ -1,1 +1,2 @@
+pub mod TakenWrites
 pub mod WrongLengths

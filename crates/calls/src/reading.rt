@@ -1,7 +1,7 @@
 //! Reading calls from their lines.
 #![tactic(auto, using(crate::proofs::WrongLengths::call_lengths))]
 
-ghost use Rattle.std.specs.Prelude.{ℕ, List, string_bytes};
+ghost use Rattle.std.specs.Prelude.{◌≡◌, ℕ, IfSome, List, Ok, string_bytes};
 ghost use Rattle.serde_json.specs.View.{view, items_view};
 ghost use Rattle.requests.specs.wire.Forms.{IsRead};
 ghost use Rattle.calls.specs.Calls.{Call as TheCall, ask_form, call_form, call_of, call_of_json, glance_of, nothing_of};
@@ -9,11 +9,16 @@ ghost use Rattle.calls.specs.Calls.{other_call_of, text_of, write_form};
 
 use crate::call::Call;
 use ids::Refusal;
+use json::{Reader, Scratch};
 use requests::{
-    Edition, command_in, expression_in, json_of, number_in, phrase_in, question_in, text_in,
+    Edition, command_in, expression_in, json_of, number_in, phrase_in, question_in, take_command,
+    text_in,
 };
 use serde_json::Value;
 use std::alloc::Global;
+
+/// The beginnings of most lines that write.
+const WRITES: [&[u8]; 3] = [b"[\"assign\"", b"[\"insert\"", b"[\"delete\""];
 
 /// What a line calls for, without its line feed. It may contain JSON white space and escapes.
 ///
@@ -27,8 +32,31 @@ use std::alloc::Global;
 pub fn read_call(alloc: Global, line: &[u8]) -> Result<Call, Refusal>
     ensures { IsRead call_of result (call_form line.now) }
 {
+    if WRITES.iter().any(|start| line.starts_with(*start))
+        && let Some(call) = write_on(alloc, line)
+    {
+        return Ok(call);
+    }
     let value = json_of(alloc, line)?;
     call_in(alloc, &value)
+}
+
+/// The write on a line, read from its tokens. `None` if the line is none, or if allocation fails.
+fn write_on(alloc: Global, line: &[u8]) -> Option<Call>
+    ensures { IfSome result (λ call. call_form line.now ≡ Ok (call_of call)) }
+{
+    let Ok(text) = str::from_utf8(line) else {
+        return None;
+    };
+    let mut scratch = Scratch::new(alloc);
+    let Ok(mut reader) = Reader::new(text, &mut scratch) else {
+        return None;
+    };
+    let command = take_command(alloc, Edition::Second, &mut reader)?;
+    if reader.next().is_some() {
+        return None;
+    }
+    Some(Call::Write(command))
 }
 
 /// The call that a JSON value is.

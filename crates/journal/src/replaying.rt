@@ -9,7 +9,7 @@ ghost use Rattle.records.specs.Replays.{BringsBackLines};
 
 use ids::{OpId, Refusal};
 use peer_sync::{Client, EngineName, Reply, Step, Ticket, Writer};
-use records::{Lines, Recorded, Replayed, Unfit, check_recorded, read_record};
+use records::{Lines, Recorded, Replayed, Scratch, Unfit, check_recorded, read_record};
 use std::alloc::Global;
 use std::sync::Wait;
 
@@ -46,6 +46,7 @@ impl Replay {
             × (result.stopped ≡ None → (client.new.seen ≡ G) × (result.bytes ≡ length journal.now)) }
         ensures bytes { result.bytes ≡ bytes_of (take result.entries (cut journal.now).lines) }
     {
+        let mut scratch = Scratch::new(alloc);
         let mut lines = Lines::new(journal);
         let mut replayed = Replayed {
             entries: 0,
@@ -53,7 +54,7 @@ impl Replay {
             stopped: None,
         };
         while let Some(line) = lines.take_line() {
-            match self.take_line(rt, alloc, writer, client, line.text) {
+            match self.take_line(rt, alloc, &mut scratch, writer, client, line.text) {
                 Ok(()) => replayed.count(line.text.len() + 1),
                 Err(why) => {
                     replayed.stopped = Some((line.number, why));
@@ -63,6 +64,7 @@ impl Replay {
         }
         if let Some(number) = lines.cut_line() {
             replayed.stopped = Some((number, Unfit::Refused(Refusal::BadLine)));
+            return replayed;
         }
         replayed
     }
@@ -72,6 +74,7 @@ impl Replay {
         &mut self,
         rt: &impl Wait,
         alloc: Global,
+        scratch: &mut Scratch,
         writer: &mut Writer<N>,
         client: &mut Client<N>,
         line: &[u8],
@@ -79,7 +82,7 @@ impl Replay {
         ensures ok { OnOk result (BringsBackLines client.old.seen (line.now ∷ []) client.new.seen) }
         ensures grows { BeginsWith client.new.seen client.old.seen }
     {
-        let said = read_record(alloc, line)?;
+        let said = read_record(alloc, scratch, line)?;
         let position = client.seen_len();
         let ticket = self.submit(rt, alloc, client, &said)?;
         settle(rt, alloc, writer, client, &ticket)?;

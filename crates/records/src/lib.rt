@@ -12,5 +12,6 @@ pub use record::{Recorded, read_record, records_are_read_back};
 pub use replaying::{Replayed, Unfit, check_recorded};
 pub use writing::lines_of;
 
-// Re-exported from the crate below, for users of this one.
+// Re-exported from the crates below, for users of this one.
+pub use json::Scratch;
 pub use requests::{BundleReader, BundleWriter, LINE_END, Lines, read_vector, write_bundle};

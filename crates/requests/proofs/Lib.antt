@@ -1,6 +1,8 @@
 pub mod CommandTexts
 pub mod NoFloats
 pub mod ReadBack
+pub mod TakenCommands
+pub mod TakenParts
 pub mod Tokens
 pub mod WrittenBack
 pub mod WrongLengths

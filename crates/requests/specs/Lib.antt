@@ -2,6 +2,7 @@
 pub mod Expressions
 pub mod Commands
 pub mod Questions
+pub mod Taken
 pub mod Written
 pub mod Readings
 pub mod Glances

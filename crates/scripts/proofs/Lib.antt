@@ -1,5 +1,4 @@
 pub mod StepsLeft
-pub mod TakenCommands
-pub mod TakenParts
+pub mod PushedSteps
 pub mod WrongLengths
 pub mod WrittenBack

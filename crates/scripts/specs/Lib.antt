@@ -7,5 +7,4 @@ pub mod Replies
 pub mod Runs
 pub mod Scripts
 pub mod Steps
-pub mod Taken
 pub mod Written

@@ -11,7 +11,6 @@ mod replies;
 mod run;
 mod script;
 mod steps;
-mod tokens;
 
 pub use error::ScriptError;
 pub use replies::reply_lines;

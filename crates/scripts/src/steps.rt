@@ -33,7 +33,7 @@ pub fn read_step(
 ) -> Result<WorldStep, Refusal>
     ensures { IsRead step_meant result (step_line edition engines.now text.now) }
 {
-    let step = match push_on(alloc, scratch, text) {
+    let step = match push_on(alloc, scratch, edition, text) {
         Some(step) => step,
         None => step_in(alloc, edition, &json_of(alloc, text)?)?,
     };

@@ -11,7 +11,7 @@ use crate::fault::{Fault, Unopened};
 use crate::store::Store;
 use ids::{Refusal, ReplicaId};
 use memchr::memrchr;
-use records::{Lines, Recorded, Unfit, read_record};
+use records::{Lines, Recorded, Scratch, Unfit, read_record};
 use std::alloc::Global;
 
 /// The beginning of each line of a journal.
@@ -50,9 +50,10 @@ impl<S: Store> Journal<S> {
     pub fn own(&self, alloc: Global) -> Result<Option<ReplicaId>, Fault>
         ensures { IfOk result (λ own. own ≡ first_own (cut self.now.bytes.items).lines) }
     {
+        let mut scratch = Scratch::new(alloc);
         let mut lines = Lines::new(&self.bytes);
         while let Some(line) = lines.take_line() {
-            let own = match own_on(alloc, line.text) {
+            let own = match own_on(alloc, &mut scratch, line.text) {
                 Ok(own) => own,
                 Err(why) => return Err(unfit(line.number, Unfit::Refused(why))),
             };
@@ -72,10 +73,10 @@ impl<S: Store> Journal<S> {
 }
 
 /// The number of the own command on a line, if it has one.
-fn own_on(alloc: Global, line: &[u8]) -> Result<Option<ReplicaId>, Refusal>
+fn own_on(alloc: Global, scratch: &mut Scratch, line: &[u8]) -> Result<Option<ReplicaId>, Refusal>
     ensures { IfOk result (λ own. own ≡ own_on (record_form line.now)) }
 {
-    let said = read_record(alloc, line)?;
+    let said = read_record(alloc, scratch, line)?;
     match &said {
         Recorded::Commanded(id, _) => Ok(Some(id.replica)),
         Recorded::Received(_) => Ok(None),

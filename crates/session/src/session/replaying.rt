@@ -11,7 +11,7 @@ ghost use Rattle.session.specs.Replays.{AreFirstLines, HasRecord, may_stand};
 
 use super::{Session, append};
 use ids::{OpId, Refusal};
-use records::{Lines, Recorded, Replayed, Unfit, check_recorded, read_record};
+use records::{Lines, Recorded, Replayed, Scratch, Unfit, check_recorded, read_record};
 use replica::{Command, Op, Shared};
 use std::alloc::Global;
 
@@ -31,6 +31,7 @@ impl Session {
         ensures stopped { IfSome result.stopped (λ stop. stop.0 ≡ result.entries + 1) }
         ensures own { self.new.own ≡ self.old.own }
     {
+        let mut scratch = Scratch::new(alloc);
         let mut lines = Lines::new(journal);
         let mut replayed = Replayed {
             entries: 0,
@@ -38,7 +39,7 @@ impl Session {
             stopped: None,
         };
         while let Some(line) = lines.take_line() {
-            match self.bring_back(alloc, line.text) {
+            match self.bring_back(alloc, &mut scratch, line.text) {
                 Ok(()) => replayed.count(line.text.len() + 1),
                 Err(why) => {
                     replayed.stopped = Some((line.number, why));
@@ -48,18 +49,19 @@ impl Session {
         }
         if let Some(number) = lines.cut_line() {
             replayed.stopped = Some((number, Unfit::Refused(Refusal::BadLine)));
+            return replayed;
         }
         replayed
     }
 
     /// Replays a line.
-    fn bring_back(&mut self, alloc: Global, line: &[u8]) -> Result<(), Unfit>
+    fn bring_back(&mut self, alloc: Global, scratch: &mut Scratch, line: &[u8]) -> Result<(), Unfit>
         ensures ok { OnOk result (BringsBackLines self.old.entries (line.now ∷ []) self.new.entries) }
         ensures grows { BeginsWith self.new.entries self.old.entries }
         ensures own { self.new.own ≡ self.old.own }
         ensures same { IfErr result (λ why. IsFalse (may_stand why) → self.new.entries ≡ self.old.entries) }
     {
-        match read_record(alloc, line)? {
+        match read_record(alloc, scratch, line)? {
             Recorded::Commanded(id, command) => self.remake(alloc, id, command),
             Recorded::Received(op) => self.receive_again(alloc, op),
         }

@@ -40,8 +40,8 @@ loop-line-preserved g c =
           (brought-more F G H (take n (cut text).lines) line c.loop-line.invariant.brought c.in-Ok.ensures.ok);
     }
 
-pub returns-in_default-cut_line : goal.returns-in_default-cut_line
-returns-in_default-cut_line g c =
+pub returns : goal.returns
+returns g c =
     let before = c.loop-line.invariant.bytes in
     let ended : c.loop-line.lines.rest.now ≡ [] = sym c.in_default.ensures.none.1 ∙ c.in_default-cut_line.ensures in
     let none : length c.loop-line.lines.rest.now ≡ 0 = ap length ended in

@@ -51,6 +51,6 @@ pub returns-in-Some-cut_line-clause-stopped : goal.returns-in-Some-cut_line-clau
 returns-in-Some-cut_line-clause-stopped c =
     omega (arith, c.in-Some-cut_line.ensures.0, c.in_default.ensures.none.2, c.loop-line.invariant.taken)
 
-pub returns-in_default-cut_line-clause-stopped : goal.returns-in_default-cut_line-clause-stopped
-returns-in_default-cut_line-clause-stopped c =
+pub returns-clause-stopped : goal.returns-clause-stopped
+returns-clause-stopped c =
     subst (λ (w : Option (ℕ × Unfit)). IfSome w (λ stop. stop.0 ≡ c.loop-line.replayed.entries + 1)) (sym c.loop-line.invariant.goes_on) tt

@@ -1,20 +1,17 @@
 -- Lists of JSON, put together from what is taken of them one after another.
 use Rattle.std.proofs.Common.{◌≡◌, ℕ, suc, ◌-◌, ◌<◌, ◌≤◌, Bool, List, [], ◌∷◌, length, Some, None, option_and_then, option_map}
-use Rattle.std.proofs.Common.{refl, ap, ◌∙◌, arith}
+use Rattle.std.proofs.Common.{IsUtf8, Ok, refl, ap, ◌∙◌, arith}
 use Rattle.json.specs.Token.{Token}
 use Rattle.json.specs.Json as json
-use Rattle.json.specs.Json.{Json, after_end_array, if_last, items, parse_map, value}
+use Rattle.json.specs.Json.{Json, after_end_array, if_last, items, parse_map, read_key, value}
 use Rattle.json.specs.Lex as lex
-use Rattle.json.proofs.Grammar.{items_end, items_more, left, skip_value-shorter, value-begin_array, value_is}
-use Rattle.serde_json.specs.Data.{Data, Items, Num, array, boolean, null, no_items, item, number, string}
-use Rattle.serde_json.specs.Read.{number_of, of_items, of_json, read}
-use Rattle.scripts.specs.Taken.{IsReadAs}
-
--- the first tokens are these parts of a list and its end, and the others are left
-abbrev pub ArePartsOf : ℕ → List Token → Items → List Token → Type 0
-ArePartsOf levels tokens ds rest =
-    (js : json.Items) × (of_items js ≡ Some ds)
-    × ((depth n : ℕ) → levels ≤ depth → length tokens ≤ n → items (value depth) n tokens ≡ Some (js, rest))
+use Rattle.json.proofs.Grammar.{items_end, items_more, left, members_end}
+use Rattle.json.proofs.Grammar.{skip_value-shorter, value-begin_array, value-begin_object, value_is}
+use Rattle.serde_json.specs.Data.{Data, Items, Num, array, boolean, null, no_items, no_members, item, number, object, string}
+use Rattle.serde_json.specs.Read.{number_of, of_json, read}
+use Rattle.wire.specs.Forms.{json_form}
+use Rattle.wire.proofs.JsonTexts.{json_form-read}
+use Rattle.requests.specs.Taken.{ArePartsOf, IsReadAs}
 
 -- what a value begins with doesn't end a list
 goes_on : (depth : ℕ) (tokens rest : List Token) (j : Json) → value depth tokens ≡ Some (j, rest) → after_end_array tokens ≡ None
@@ -66,40 +63,49 @@ deeper few many tokens rest d more read = (read.0, read.1, λ depth deep. read.2
 pub takes_some : (levels : ℕ) (tokens rest : List Token) (d : Data) → IsReadAs levels tokens d rest → length rest < length tokens
 takes_some levels tokens rest d read = skip_value-shorter levels tokens rest (ap left (read.2 levels (omega arith)))
 
--- a list of a word, an expression and a value
-pub three_parts : (tokens a b c e rest : List Token) (word expression written : Data) → tokens ≡ Token.begin_array ∷ a
-    → IsReadAs 0 a word b → IsReadAs 1 b expression c → IsReadAs 0 c written e → after_end_array e ≡ Some rest
-    → IsReadAs 2 tokens (array (item word (item expression (item written no_items)))) rest
-three_parts tokens a b c e rest word expression written opened first second third ends =
-    all_parts 1 tokens a rest _ opened
-    (one_part 1 a b rest word _ (deeper 0 1 a b word (omega arith) first)
-    (one_part 1 b c rest expression _ second
-    (one_part 1 c e rest written _ (deeper 0 1 c e written (omega arith) third) (no_part 1 e rest ends))))
+-- an empty object
+pub empty_object : (ts a rest : List Token) → ts ≡ Token.begin_object ∷ a → read_key a ≡ Some (None, rest)
+    → IsReadAs 1 ts (object no_members) rest
+empty_object ts a rest opened over = (
+  json.object json.no_members,
+  refl,
+  λ depth deep. ap (value depth) opened ∙ value-begin_object depth a (omega arith)
+      ∙ ap (parse_map json.object) (members_end (value (depth - 1)) (length a) a rest (omega arith) over),
+)
 
--- a list of a word and an expression
-pub two_parts : (tokens a b c rest : List Token) (word expression : Data) → tokens ≡ Token.begin_array ∷ a
-    → IsReadAs 0 a word b → IsReadAs 1 b expression c → after_end_array c ≡ Some rest
-    → IsReadAs 2 tokens (array (item word (item expression no_items))) rest
-two_parts tokens a b c rest word expression opened first second ends =
-    all_parts 1 tokens a rest _ opened
-    (one_part 1 a b rest word _ (deeper 0 1 a b word (omega arith) first)
-    (one_part 1 b c rest expression _ second (no_part 1 c rest ends)))
+module _ (levels : ℕ) where
+  pub two_parts : (ts a b c rest : List Token) (x y : Data) → ts ≡ Token.begin_array ∷ a → IsReadAs levels a x b → IsReadAs levels b y c
+      → after_end_array c ≡ Some rest → IsReadAs (suc levels) ts (array (item x (item y no_items))) rest
+  two_parts ts a b c rest x y opened first second ends =
+      all_parts levels ts a rest _ opened
+      (one_part levels a b rest x _ first (one_part levels b c rest y _ second (no_part levels c rest ends)))
 
--- a list of a word, an engine, a client and a command
-pub four_parts : (tokens a b c e f rest : List Token) (word engine client command : Data) → tokens ≡ Token.begin_array ∷ a
-    → IsReadAs 0 a word b → IsReadAs 0 b engine c → IsReadAs 0 c client e → IsReadAs 2 e command f → after_end_array f ≡ Some rest
-    → IsReadAs 3 tokens (array (item word (item engine (item client (item command no_items))))) rest
-four_parts tokens a b c e f rest word engine client command opened first second third fourth ends =
-    all_parts 2 tokens a rest _ opened
-    (one_part 2 a b rest word _ (deeper 0 2 a b word (omega arith) first)
-    (one_part 2 b c rest engine _ (deeper 0 2 b c engine (omega arith) second)
-    (one_part 2 c e rest client _ (deeper 0 2 c e client (omega arith) third)
-    (one_part 2 e f rest command _ fourth (no_part 2 f rest ends)))))
+  pub three_parts : (ts a b c e rest : List Token) (x y z : Data) → ts ≡ Token.begin_array ∷ a → IsReadAs levels a x b
+      → IsReadAs levels b y c → IsReadAs levels c z e → after_end_array e ≡ Some rest
+      → IsReadAs (suc levels) ts (array (item x (item y (item z no_items)))) rest
+  three_parts ts a b c e rest x y z opened first second third ends =
+      all_parts levels ts a rest _ opened
+      (one_part levels a b rest x _ first
+      (one_part levels b c rest y _ second (one_part levels c e rest z _ third (no_part levels e rest ends))))
+
+  pub four_parts : (ts a b c e f rest : List Token) (x y z w : Data) → ts ≡ Token.begin_array ∷ a → IsReadAs levels a x b
+      → IsReadAs levels b y c → IsReadAs levels c z e → IsReadAs levels e w f → after_end_array f ≡ Some rest
+      → IsReadAs (suc levels) ts (array (item x (item y (item z (item w no_items))))) rest
+  four_parts ts a b c e f rest x y z w opened first second third fourth ends =
+      all_parts levels ts a rest _ opened
+      (one_part levels a b rest x _ first
+      (one_part levels b c rest y _ second
+      (one_part levels c e rest z _ third (one_part levels e f rest w _ fourth (no_part levels f rest ends)))))
 
 -- a text whose tokens are this JSON and no more
-pub text_of : (text : List ℕ) (d : Data) → IsReadAs 3 (lex.tokens text) d [] → read text ≡ Some d
-text_of text d taken =
-    ap (λ o. option_and_then of_json (option_and_then (λ (p : Json × List Token). if_last p.0 p.1) o)) (taken.2 127 (omega arith)) ∙ taken.1
+pub text_of : (levels : ℕ) (text : List ℕ) (d : Data) → levels ≤ 127 → IsReadAs levels (lex.tokens text) d [] → read text ≡ Some d
+text_of levels text d shallow taken =
+    ap (λ o. option_and_then of_json (option_and_then (λ (p : Json × List Token). if_last p.0 p.1) o)) (taken.2 127 shallow) ∙ taken.1
+
+-- a line whose tokens are this JSON and no more, as JSON
+pub line_of : (levels : ℕ) (text : List ℕ) (d : Data) → levels ≤ 127 → IsUtf8 text → IsReadAs levels (lex.tokens text) d []
+    → json_form text ≡ Ok d
+line_of levels text d shallow utf8 taken = json_form-read text d utf8 (text_of levels text d shallow taken)
 
 -- ---- single tokens
 

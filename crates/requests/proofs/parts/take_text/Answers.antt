@@ -1,7 +1,7 @@
 use Rattle.std.proofs.Common.{◌≡◌, ◌∷◌, arith}
 use Rattle.json.specs.Reads.{token_of}
-use Rattle.scripts.proofs.TakenParts.{text_is_read}
-use Rattle.scripts.proofs.tokens.take_text.Goals as goal
+use Rattle.requests.proofs.TakenParts.{text_is_read}
+use Rattle.requests.proofs.parts.take_text.Goals as goal
 
 pub returns-in-String : goal.returns-in-String
 returns-in-String c =

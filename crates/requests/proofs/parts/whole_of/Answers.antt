@@ -1,6 +1,6 @@
 use Rattle.std.proofs.Common.{rules}
 use Rattle.serde_json.specs.Read.{number_of}
-use Rattle.scripts.proofs.tokens.whole_of.Goals as goal
+use Rattle.requests.proofs.parts.whole_of.Goals as goal
 
 pub returns : goal.returns
 unfolding number_of

@@ -2,8 +2,8 @@ use Rattle.std.proofs.Common.{◌≡◌, ◌∷◌, Some, None, IfSome, ℕ, Opt
 use Rattle.json.specs.Reads.{token_of}
 use Rattle.json.specs.Token.{Token}
 use Rattle.serde_json.specs.Data.{unsigned}
-use Rattle.scripts.proofs.TakenParts.{number_is_read}
-use Rattle.scripts.proofs.tokens.take_whole.Goals as goal
+use Rattle.requests.proofs.TakenParts.{number_is_read}
+use Rattle.requests.proofs.parts.take_whole.Goals as goal
 
 pub returns-in-Number : goal.returns-in-Number
 returns-in-Number c =
