@@ -31,7 +31,6 @@ ELSEWHERE = {
     "GUARANTEES": {"NAME_tests", "of_NAME"},
     "EMBEDDING": {"HANDLES", "a.parts", "engines.run_engine", "received.stopped", "sleep", "spawn", "std::thread::Parker"},
     "NEXT": {"Closed", "flat_map", "set_as"},
-    "PROGRESS": {"FEW", "Homes", "TagColumns"},
     "PERF": {"malloc_consolidate"},
     "PROVING": {
         "Cmp.decided", "Cmp.on_equiv", "Crate.words", "FiltersInPlace", "Lts", "Vec::get", "Vec::insert", "Vec::retain", "as_chunks_mut",
