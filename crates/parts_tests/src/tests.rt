@@ -1,5 +1,6 @@
 //! Limits and examples with values from the rules, and each call once in a case that succeeds.
 
+mod of_chunks;
 mod of_cursor;
 mod of_ids;
 mod of_inbox;

@@ -1,0 +1,2 @@
+-- What a list in chunks is to contracts.
+pub mod Chunks
