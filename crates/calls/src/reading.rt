@@ -22,8 +22,7 @@ const WRITES: [&[u8]; 3] = [b"[\"assign\"", b"[\"insert\"", b"[\"delete\""];
 
 /// What a line calls for, without its line feed. It may contain JSON white space and escapes.
 ///
-/// The line is parsed whole before its parts are looked at, in time and memory in proportion to its length: whoever takes lines from others
-/// must bound their length first.
+/// Takes time and memory in proportion to the line's length: whoever takes lines from others must bound their length first.
 ///
 /// # Errors
 /// `BadLine` if the text is no JSON, or no list that begins with the word of a call; else the first fault of its parts from the left. A

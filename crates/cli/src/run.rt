@@ -15,7 +15,7 @@ use std::io::{Read, Write};
 use std::mem;
 
 /// Reads a whole script, checks each line, runs its steps, and then prints the replies. A line of `faults` names a script that can't be
-/// read, or the first bad line. Returns the status with which the process exits.
+/// read, or the first bad line. Returns the status with which the process exits. Never frees the script and its world.
 pub fn run_script<R: Read, O: Write, F: Write>(
     alloc: Global,
     name: &str,

@@ -6,6 +6,7 @@ pub mod Halves
 pub mod Sought
 pub mod HintedKeys
 pub mod Prefixes
+pub mod ShortKeys
 pub mod Placed
 pub mod Columns
 pub mod Above

@@ -1,7 +1,7 @@
 -- Where the first bytes of two names differ, they decide the order of the names.
 use Rattle.std.proofs.Common.{◌≡◌, ◌<◌, ◌≤◌, ◌^◌, ◌++◌, ◌⊎◌, inl, inr, ℕ, zero, suc, List, [], ◌∷◌, length, get_or, refl, sym, ap, ◌∙◌}
 use Rattle.std.proofs.Common.{subst}
-use Rattle.std.proofs.Common.{arith, nat_cmp, Ordering, Less, Equal, Greater, take, drop, slice_get, Some}
+use Rattle.std.proofs.Common.{arith, nat_cmp, Ordering, Less, Equal, Greater, map, take, drop, slice_get, Some}
 use Rattle.std.specs.List.{insert}
 use Rattle.std.specs.Ordering.{ordering_then}
 use Rattle.std.specs.Cmp.{nat_cmp_is, ranked}
@@ -109,14 +109,16 @@ prefix_at names prefixes position p are within at =
     ∙ ap (λ ps. get_or ps position 0) are.paired
     ∙ get_or-map (first_bytes 8) names position [] 0 within
 
+-- an item is put into a list before its image is made, or after
+pub map_insert : {X Y : Type 0} (f : X → Y) (xs : List X) (i : ℕ) (x : X) → insert (map f xs) i (f x) ≡ map f (insert xs i x)
+map_insert f xs i x =
+    (λ t. take-map f i xs t ++ f x ∷ drop-map f i xs t) ∙ sym (map-append f (take i xs) (x ∷ drop i xs))
+
 -- one more name, and its prefix beside it
 pub prefixes_more : (names : List Name) (prefixes : List ℕ) (name : Name) (position : ℕ) → AreBytes name → ArePrefixes names prefixes
     → ArePrefixes (insert names position name) (insert prefixes position (first_bytes 8 name))
 prefixes_more names prefixes name position bytes are = record {
-  paired =
-      ap (λ xs. insert xs position (first_bytes 8 name)) are.paired
-      ∙ (λ i. take-map (first_bytes 8) position names i ++ first_bytes 8 name ∷ drop-map (first_bytes 8) position names i)
-      ∙ sym (map-append (first_bytes 8) (take position names) (name ∷ drop position names));
+  paired = ap (λ xs. insert xs position (first_bytes 8 name)) are.paired ∙ map_insert (first_bytes 8) names position name;
   bytes =
       All-append AreBytes (take position names) (name ∷ drop position names) (All-take AreBytes position names are.bytes)
       (All-cons AreBytes name (drop position names) bytes (All-drop AreBytes position names are.bytes));

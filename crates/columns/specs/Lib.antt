@@ -9,6 +9,7 @@ pub mod ReplicaColumns
 pub mod HeldTags
 pub mod Keys
 pub mod Prefix
+pub mod ShortKeys
 pub mod Numbered
 pub mod NumberColumns
 pub mod Flagged

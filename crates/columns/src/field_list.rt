@@ -156,7 +156,7 @@ impl FieldList {
     }
 
     /// Puts a key that isn't there yet, with its number and a lowered flag. Allocates nothing. A binary search, unless it goes in behind
-    /// the last one that was put or sought, and three inserts into `Rings`.
+    /// the last one that was put or sought, an insert into `Chunks` and one into `Rings`.
     pub fn put(&mut self, key: Key, number: usize)
         requires new { find name_cmp key self.old.entries ≡ None }
         requires room { 0 < self.old.room }

@@ -6,13 +6,14 @@ ghost use Rattle.std.specs.declared.cmp.Ordering.TheVariants.{Less};
 ghost use Rattle.std.specs.List.{insert};
 ghost use Rattle.std.specs.FinMap.{put, is_sorted};
 ghost use Rattle.semantics.specs.Elements.{Name, name_cmp};
-ghost use Rattle.columns.specs.Keys.{AreNumbers, AreOrdered, Finds, IsBetween, numbered};
+ghost use Rattle.columns.specs.Keys.{AreNumbers, Finds, IsBetween};
 ghost use Rattle.columns.specs.Prefix.{AreBytes, first_bytes};
+ghost use Rattle.columns.specs.ShortKeys.{AreShort};
 ghost use Rattle.columns.specs.Rank.{GoesTo, as_set};
 
 use crate::prefix::prefix_of;
+use chunks::{Chunks, Reader};
 use cursor::Key;
-use rings::Rings;
 use std::alloc::{AllocError, Global};
 use std::cmp::Ordering;
 use std::marker::Model;
@@ -26,10 +27,16 @@ use std::marker::Model;
 pub struct SortedKeys {
     /// In the order in which they were put.
     keys: Vec<Key>,
-    /// The number of the key at each position in byte order.
-    order: Rings<usize>,
-    /// The prefix of the key at each position in byte order.
-    prefixes: Rings<u64>,
+    /// For each position in byte order what stands for the key there.
+    order: Chunks<ShortKey>,
+}
+
+/// What stands for a key in byte order.
+#[derive(Clone, Copy, Debug, Drop)]
+struct ShortKey {
+    prefix: u64,
+    /// How many keys were put before it.
+    number: usize,
 }
 
 /// The positions from `low` on and below `high`, at which a key may stand; if it isn't there, `high` is the last one where it may belong.
@@ -43,17 +50,18 @@ impl Model for SortedKeys {
     ghost use Rattle.std.specs.Prelude.{[], min, vec_len, vec_capacity, ◌-◌};
     ghost use Rattle.columns.specs.Keys.{AreOrdered, Keys, numbered};
     ghost use Rattle.columns.specs.Prefix.{ArePrefixes};
+    ghost use Rattle.columns.specs.ShortKeys.{numbers_of, prefixes_of};
 
     ghost Value = { Keys };
 
     ghost view = { λ k. record {
-      keys = numbered [] k.keys.items k.order.items;
-      numbers = k.order.items;
-      room = min (vec_capacity k.keys - vec_len k.keys) (min k.order.room k.prefixes.room);
+      keys = numbered [] k.keys.items (numbers_of k.order.items);
+      numbers = numbers_of k.order.items;
+      room = min (vec_capacity k.keys - vec_len k.keys) k.order.room;
     } };
 
-    ghost invariant = { λ k. AreOrdered k.keys.items k.order.items
-        × ArePrefixes (numbered [] k.keys.items k.order.items) k.prefixes.items };
+    ghost invariant = { λ k. AreOrdered k.keys.items (numbers_of k.order.items)
+        × ArePrefixes (numbered [] k.keys.items (numbers_of k.order.items)) (prefixes_of k.order.items) };
 }
 
 impl SortedKeys {
@@ -63,8 +71,7 @@ impl SortedKeys {
     {
         SortedKeys {
             keys: Vec::new(alloc),
-            order: Rings::new(alloc),
-            prefixes: Rings::new(alloc),
+            order: Chunks::new(alloc),
         }
     }
 
@@ -73,7 +80,7 @@ impl SortedKeys {
         ensures length { result ≡ length self.now.keys }
         ensures rising { IsTrue (is_sorted name_cmp (as_set self.now.keys)) }
     {
-        self.order.len()
+        self.keys.len()
     }
 
     /// The key at a position in byte order.
@@ -81,7 +88,7 @@ impl SortedKeys {
         requires { position < length self.now.keys }
         ensures { slice_get self.now.keys position ≡ Some result.now }
     {
-        key_at(&self.keys, &self.order, position)
+        &self.keys[self.order.get(position).number]
     }
 
     /// How many keys were put before the one at a position.
@@ -90,7 +97,7 @@ impl SortedKeys {
         ensures number { slice_get self.now.numbers position ≡ Some result }
         ensures numbers { AreNumbers (length self.now.keys) self.now.numbers }
     {
-        *self.order.get(position)
+        self.order.get(position).number
     }
 
     /// Makes room for one more key.
@@ -104,8 +111,7 @@ impl SortedKeys {
         ensures kept { self.old.room ≤ self.new.room }
     {
         self.keys.reserve(1)?;
-        self.order.reserve_one()?;
-        self.prefixes.reserve_one()
+        self.order.reserve_one()
     }
 
     /// The position of a key, or `Err` with the one where it would be inserted, as `find_with_hint`.
@@ -132,11 +138,12 @@ impl SortedKeys {
         ensures counted { probes.old ≤ probes.new }
     {
         let prefix = prefix_of(key.as_str().as_bytes());
+        let mut order = self.order.reader();
         // Kept in a register until the search ends.
         let mut count = *probes;
-        let found = match self.narrow(key, prefix, hint, &mut count) {
+        let found = match self.narrow(key, prefix, hint, &mut order, &mut count) {
             Ok(position) => Ok(position),
-            Err(span) => self.search(key, prefix, span, &mut count),
+            Err(span) => self.search(key, prefix, span, &mut order, &mut count),
         };
         *probes = count;
         found
@@ -145,12 +152,21 @@ impl SortedKeys {
     /// Compares a key, of which this is the prefix, with the one at `hint`, if there is one. Returns the position of the key if it stands
     /// there, else `Err` with the positions among which it may stand or belong.
     #[inline(always)]
-    fn narrow(&self, key: &Key, prefix: u64, hint: usize, probes: &mut u64) -> Result<usize, Span>
+    fn narrow(
+        &self,
+        key: &Key,
+        prefix: u64,
+        hint: usize,
+        order: &mut Reader<'_, ShortKey>,
+        probes: &mut u64,
+    ) -> Result<usize, Span>
         requires prefix { prefix ≡ first_bytes 8 key.now }
         requires bytes { AreBytes key.now }
+        requires order { AreShort self.now.keys self.now.numbers order.old }
         requires few { probes.old ≤ 18446744073709551550 }
         ensures found { IfOk result (λ position. Finds self.now.keys key.now (Ok position)) }
         ensures between { IfErr result (λ span. IsBetween self.now.keys key.now span.low span.high) }
+        ensures order { AreShort self.now.keys self.now.numbers order.new }
         ensures hinted { slice_get self.now.keys hint ≡ Some key.now → (result ≡ Ok hint) × (probes.new ≡ probes.old + 1) }
         ensures few_probes { probes.new ≤ probes.old + 1 }
         ensures counted { probes.old ≤ probes.new }
@@ -165,7 +181,7 @@ impl SortedKeys {
             });
         }
         *probes += 1;
-        match self.compare(key, prefix, hint) {
+        match self.compare(key, prefix, hint, order) {
             Ordering::Less => Err(Span { low: 0, high: hint }),
             Ordering::Equal => Ok(hint),
             Ordering::Greater => {
@@ -181,9 +197,17 @@ impl SortedKeys {
     /// and looks as near to `low` as that allows.
     // Inlined at its only call, so that what it counts stays in a register.
     #[inline(always)]
-    fn search(&self, key: &Key, prefix: u64, span: Span, probes: &mut u64) -> Result<usize, usize>
+    fn search(
+        &self,
+        key: &Key,
+        prefix: u64,
+        span: Span,
+        order: &mut Reader<'_, ShortKey>,
+        probes: &mut u64,
+    ) -> Result<usize, usize>
         requires prefix { prefix ≡ first_bytes 8 key.now }
         requires bytes { AreBytes key.now }
+        requires order { AreShort self.now.keys self.now.numbers order.old }
         requires between { IsBetween self.now.keys key.now span.low span.high }
         requires few { probes.old ≤ 18446744073709551551 }
         ensures position { Finds self.now.keys key.now result }
@@ -200,7 +224,7 @@ impl SortedKeys {
             most /= 2;
             let middle = between(low, high, most);
             *probes += 1;
-            match self.compare(key, prefix, middle) {
+            match self.compare(key, prefix, middle, order) {
                 Ordering::Less => high = middle,
                 Ordering::Equal => return Ok(middle),
                 Ordering::Greater => low = middle + 1,
@@ -209,7 +233,7 @@ impl SortedKeys {
         Err(low)
     }
 
-    /// Puts a key that isn't there yet at the position that a search gives for it. Allocates nothing. Two inserts into `Rings`.
+    /// Puts a key that isn't there yet at the position that a search gives for it. Allocates nothing. An insert into `Chunks`.
     pub fn put(&mut self, position: usize, key: Key)
         requires position { GoesTo name_cmp key self.old.keys position }
         requires room { 0 < self.old.room }
@@ -218,35 +242,37 @@ impl SortedKeys {
         ensures numbers { self.new.numbers ≡ insert self.old.numbers position (length self.old.keys) }
         ensures room { self.old.room ≤ self.new.room + 1 }
     {
-        let prefix = prefix_of(key.as_str().as_bytes());
-        self.order.insert(position, self.keys.len());
-        self.prefixes.insert(position, prefix);
+        let short = ShortKey {
+            prefix: prefix_of(key.as_str().as_bytes()),
+            number: self.keys.len(),
+        };
+        self.order.insert(position, short);
         self.keys.push_reserved(key);
     }
 
     /// Compares a key, of which this is the prefix, with the one at a position.
     // Inlined, since a search does little else; the prefixes decide most comparisons.
     #[inline(always)]
-    fn compare(&self, key: &Key, prefix: u64, position: usize) -> Ordering
+    fn compare(
+        &self,
+        key: &Key,
+        prefix: u64,
+        position: usize,
+        order: &mut Reader<'_, ShortKey>,
+    ) -> Ordering
         requires prefix { prefix ≡ first_bytes 8 key.now }
         requires bytes { AreBytes key.now }
         requires within { position < length self.now.keys }
-        ensures { (d : Name) → result ≡ name_cmp key.now (slice_index_or self.now.keys position d) }
+        requires order { AreShort self.now.keys self.now.numbers order.old }
+        ensures same { order.new ≡ order.old }
+        ensures ordered { (d : Name) → result ≡ name_cmp key.now (slice_index_or self.now.keys position d) }
     {
-        match prefix.cmp(self.prefixes.get(position)) {
-            Ordering::Equal => key.cmp(self.at(position)),
+        let other = order.get(position);
+        match prefix.cmp(&other.prefix) {
+            Ordering::Equal => key.cmp(&self.keys[other.number]),
             apart => apart,
         }
     }
-}
-
-/// The key at a position in byte order.
-fn key_at<'a>(keys: &'a [Key], order: &Rings<usize>, position: usize) -> &'a Key
-    requires numbers { AreNumbers (length keys.now) order.now.items }
-    requires within { position < length order.now.items }
-    ensures { (d : Name) → slice_index_or (numbered [] keys.now order.now.items) position d ≡ result.now }
-{
-    &keys[*order.get(position)]
 }
 
 /// The first position, from `low` on, that has at most this many others between itself and `high`.

@@ -1,6 +1,6 @@
 //! Pushes, read from the tokens of their lines.
 //!
-//! Most lines of a long script push a command. They are read here without a JSON value in between, which takes a quarter of the time. Any
+//! Most lines of a long script push a command. They are read here without the JSON values in between, which took a fifth of the time. Any
 //! other line is given up, good or bad.
 
 ghost use Rattle.std.specs.Prelude.{◌≡◌, Ok, IfSome};

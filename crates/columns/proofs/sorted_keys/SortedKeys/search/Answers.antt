@@ -1,6 +1,7 @@
-use Rattle.std.proofs.Common.{◌≤◌, ◌<◌, ◌+◌, ◌/◌, ◌^◌, ◌∙◌, ℕ, [], sym, arith, get_or}
+use Rattle.std.proofs.Common.{◌≤◌, ◌<◌, ◌+◌, ◌/◌, ◌^◌, ◌∙◌, ℕ, [], sym, subst, arith, get_or}
 use Rattle.semantics.specs.Elements.{name_cmp}
 use Rattle.semantics.proofs.Orders.{name_total}
+use Rattle.columns.specs.ShortKeys.{AreShort}
 use Rattle.columns.proofs.Halves.{halved}
 use Rattle.columns.proofs.HintedKeys.{found_here, is_there, sought_between}
 use Rattle.columns.proofs.Sought.{sought_before, sought_behind, sought_nowhere}
@@ -21,6 +22,7 @@ loop-low-init c =
       sought =
           sought_between c.args.self.now.keys c.args.key.now c.args.span.low c.args.span.high c.requires.between.above
           c.requires.between.within c.requires.between.next;
+      order = c.requires.order;
       most = omega arith;
       probes = λ k few. (k, few, omega arith);
       counted = omega arith;
@@ -65,7 +67,8 @@ loop-low-preserved-in-Less c =
       sought =
           sought_before name_cmp c.args.key.now keys c.loop-low.low c.loop-low.high middle (get_or keys middle []) inv.sought inside
           (is_there keys middle (omega (arith, inside, within)))
-          (sym (c.compare.ensures []) ∙ c.in-Less.is);
+          (sym (c.compare.ensures.ordered []) ∙ c.in-Less.is);
+      order = subst (AreShort keys c.args.self.now.numbers) (sym c.compare.ensures.same) inv.order;
       most = before;
       probes = one_more c.loop-low.most c.loop-low.probes c.args.probes.now c.args.span.high (omega (arith, apart, most)) inv.probes;
       counted = omega (arith, counted);
@@ -75,7 +78,7 @@ loop-low-preserved-in-Less c =
 pub returns-in-Equal-clause-position : goal.returns-in-Equal-clause-position
 returns-in-Equal-clause-position c =
     found_here c.args.self.now.keys c.args.key.now c.len.ensures.rising c.loop-low.low c.loop-low.high c.between-middle.result
-    c.loop-low.invariant.sought c.between-middle.ensures.inside (sym (c.compare.ensures []) ∙ c.in-Equal.is)
+    c.loop-low.invariant.sought c.between-middle.ensures.inside (sym (c.compare.ensures.ordered []) ∙ c.in-Equal.is)
 
 pub loop-low-preserved : goal.loop-low-preserved
 loop-low-preserved c =
@@ -92,7 +95,8 @@ loop-low-preserved c =
       sought =
           sought_behind name_cmp c.args.key.now keys c.loop-low.low c.loop-low.high middle (get_or keys middle []) inv.sought inside
           (is_there keys middle (omega (arith, inside, within))) name_total c.len.ensures.rising
-          (sym (c.compare.ensures []) ∙ c.in-Greater.is);
+          (sym (c.compare.ensures.ordered []) ∙ c.in-Greater.is);
+      order = subst (AreShort keys c.args.self.now.numbers) (sym c.compare.ensures.same) inv.order;
       most = omega (arith, behind);
       probes = one_more c.loop-low.most c.loop-low.probes c.args.probes.now c.args.span.high (omega (arith, apart, most)) inv.probes;
       counted = omega (arith, counted);
