@@ -66,11 +66,23 @@ impl<T: Copy + Drop> Chunks<T> {
     {
         match &self.front {
             None => self.last.at(position),
-            Some(_) => self.part(position).at(position),
+            Some(_) => self.get_from_part(position),
         }
     }
 
+    /// The item at a position, wherever its chunk is.
+    // Not inlined, so that a read of the only chunk makes no room for a part.
+    #[inline(never)]
+    fn get_from_part(&self, position: usize) -> &T
+        requires { position < length self.now.items }
+        ensures { slice_get self.now.items position ≡ Some result.now }
+    {
+        self.part(position).at(position)
+    }
+
     /// Reads items one after another.
+    // Inlined, so that a search has it in registers.
+    #[inline(always)]
     pub fn reader(&self) -> Reader<'_, T>
         ensures { result ≡ self.now.items }
     {
@@ -131,6 +143,7 @@ impl<T: Copy + Drop> Chunks<T> {
 }
 
 /// How many items are before the last chunk.
+#[inline(always)]
 fn start_of_last<T: Copy + Drop>(front: &Option<Box<Front<T>>>) -> usize
     ensures { result ≡ length (items_before (option_map (λ f. f.value) front.now)) }
 {

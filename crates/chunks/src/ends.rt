@@ -25,7 +25,7 @@ pub(crate) struct Spot {
 pub(crate) struct Ends {
     ends: Vec<usize>,
     /// For each 64th position a chunk near it, from which a search goes step by step. Made anew when a chunk comes in, and after each 64
-    /// items at the end, so these are few steps.
+    /// items that go into one, so these are few steps.
     guide: Vec<usize>,
 }
 

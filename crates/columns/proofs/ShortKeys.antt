@@ -1,11 +1,19 @@
--- What stands for keys: its numbers and prefixes.
+-- What stands for keys: their numbers and prefixes.
 use Rattle.std.proofs.Common.{◌≡◌, ◌<◌, ◌∙◌, ℕ, List, [], length, get_or, slice_get, Some, ap, subst}
 use Rattle.std.specs.Option.{option_map}
+use Rattle.std.proofs.lemmas.List.Elements.{All-get_or}
 use Rattle.std.proofs.lemmas.Option.{get_or_from_slice_get, slice_get-map, slice_get_within}
 use Rattle.semantics.specs.Elements.{Name}
 use Rattle.columns.specs.Keys.{AreNumbers, numbered}
-use Rattle.columns.specs.ShortKeys.{numbers_of, prefixes_of}
+use Rattle.columns.specs.Prefix.{AreBytes, ArePrefixes}
+use Rattle.columns.specs.ShortKeys.{StandsFor, numbers_of, prefixes_of}
 use Rattle.columns.specs.declared.sorted_keys.ShortKey.{ShortKey}
+use Rattle.columns.proofs.Prefixes.{prefix_at}
+
+-- each stands for the key at its position
+pub record AreShort (keys : List Name) (numbers : List ℕ) (order : List ShortKey) : Type 0 where
+  pub are_numbers : numbers ≡ numbers_of order
+  pub are_prefixes : ArePrefixes keys (prefixes_of order)
 
 module _ (order : List ShortKey) (position : ℕ) (s : ShortKey) (is : slice_get order position ≡ Some s) where
   pub number_at : slice_get (numbers_of order) position ≡ Some s.number
@@ -25,3 +33,12 @@ module _ (keys : List Name) (numbers : List ℕ) (position n : ℕ) (is : slice_
       slice_get-map (λ i. get_or keys i []) numbers position
       ∙ ap (option_map (λ i. get_or keys i [])) is
       ∙ ap Some (get_or_from_slice_get keys n key [] there)
+
+pub stands_for : (keys : List Name) (numbers : List ℕ) (order : List ShortKey) (position : ℕ) (s : ShortKey) → AreShort keys numbers order
+    → position < length keys → slice_get order position ≡ Some s → StandsFor keys numbers position s
+stands_for keys numbers order position s are within is = record {
+  within = within;
+  number = ap (λ ns. slice_get ns position) are.are_numbers ∙ number_at order position s is;
+  prefix = prefix_at keys (prefixes_of order) position s.prefix are.are_prefixes within (short_at order position s is);
+  bytes = All-get_or AreBytes keys position [] within are.are_prefixes.bytes;
+}

@@ -68,10 +68,8 @@ impl FieldList {
         requires { position < length self.now.entries }
         ensures { slice_get self.now.entries position ≡ Some (result.0.now, result.1) }
     {
-        (
-            self.keys.at(position),
-            self.numbers[self.keys.number(position)],
-        )
+        let (key, number) = self.keys.at(position);
+        (key, self.numbers[number])
     }
 
     /// The number of a key. Binary search, unless it is the last one that was put or sought.

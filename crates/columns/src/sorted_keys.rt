@@ -8,11 +8,11 @@ ghost use Rattle.std.specs.FinMap.{put, is_sorted};
 ghost use Rattle.semantics.specs.Elements.{Name, name_cmp};
 ghost use Rattle.columns.specs.Keys.{AreNumbers, Finds, IsBetween};
 ghost use Rattle.columns.specs.Prefix.{AreBytes, first_bytes};
-ghost use Rattle.columns.specs.ShortKeys.{AreShort};
+ghost use Rattle.columns.specs.ShortKeys.{StandsFor};
 ghost use Rattle.columns.specs.Rank.{GoesTo, as_set};
 
 use crate::prefix::prefix_of;
-use chunks::{Chunks, Reader};
+use chunks::Chunks;
 use cursor::Key;
 use std::alloc::{AllocError, Global};
 use std::cmp::Ordering;
@@ -83,12 +83,14 @@ impl SortedKeys {
         self.keys.len()
     }
 
-    /// The key at a position in byte order.
-    pub fn at(&self, position: usize) -> &Key
+    /// The key at a position in byte order, and how many keys were put before it.
+    pub fn at(&self, position: usize) -> (&Key, usize)
         requires { position < length self.now.keys }
-        ensures { slice_get self.now.keys position ≡ Some result.now }
+        ensures key { slice_get self.now.keys position ≡ Some result.0.now }
+        ensures number { slice_get self.now.numbers position ≡ Some result.1 }
     {
-        &self.keys[self.order.get(position).number]
+        let number = self.order.get(position).number;
+        (&self.keys[number], number)
     }
 
     /// How many keys were put before the one at a position.
@@ -138,12 +140,11 @@ impl SortedKeys {
         ensures counted { probes.old ≤ probes.new }
     {
         let prefix = prefix_of(key.as_str().as_bytes());
-        let mut order = self.order.reader();
         // Kept in a register until the search ends.
         let mut count = *probes;
-        let found = match self.narrow(key, prefix, hint, &mut order, &mut count) {
+        let found = match self.narrow(key, prefix, hint, &mut count) {
             Ok(position) => Ok(position),
-            Err(span) => self.search(key, prefix, span, &mut order, &mut count),
+            Err(span) => self.search(key, prefix, span, &mut count),
         };
         *probes = count;
         found
@@ -152,21 +153,12 @@ impl SortedKeys {
     /// Compares a key, of which this is the prefix, with the one at `hint`, if there is one. Returns the position of the key if it stands
     /// there, else `Err` with the positions among which it may stand or belong.
     #[inline(always)]
-    fn narrow(
-        &self,
-        key: &Key,
-        prefix: u64,
-        hint: usize,
-        order: &mut Reader<'_, ShortKey>,
-        probes: &mut u64,
-    ) -> Result<usize, Span>
+    fn narrow(&self, key: &Key, prefix: u64, hint: usize, probes: &mut u64) -> Result<usize, Span>
         requires prefix { prefix ≡ first_bytes 8 key.now }
         requires bytes { AreBytes key.now }
-        requires order { AreShort self.now.keys self.now.numbers order.old }
         requires few { probes.old ≤ 18446744073709551550 }
         ensures found { IfOk result (λ position. Finds self.now.keys key.now (Ok position)) }
         ensures between { IfErr result (λ span. IsBetween self.now.keys key.now span.low span.high) }
-        ensures order { AreShort self.now.keys self.now.numbers order.new }
         ensures hinted { slice_get self.now.keys hint ≡ Some key.now → (result ≡ Ok hint) × (probes.new ≡ probes.old + 1) }
         ensures few_probes { probes.new ≤ probes.old + 1 }
         ensures counted { probes.old ≤ probes.new }
@@ -181,7 +173,7 @@ impl SortedKeys {
             });
         }
         *probes += 1;
-        match self.compare(key, prefix, hint, order) {
+        match self.compare(key, prefix, self.short_at(hint)) {
             Ordering::Less => Err(Span { low: 0, high: hint }),
             Ordering::Equal => Ok(hint),
             Ordering::Greater => {
@@ -197,17 +189,9 @@ impl SortedKeys {
     /// and looks as near to `low` as that allows.
     // Inlined at its only call, so that what it counts stays in a register.
     #[inline(always)]
-    fn search(
-        &self,
-        key: &Key,
-        prefix: u64,
-        span: Span,
-        order: &mut Reader<'_, ShortKey>,
-        probes: &mut u64,
-    ) -> Result<usize, usize>
+    fn search(&self, key: &Key, prefix: u64, span: Span, probes: &mut u64) -> Result<usize, usize>
         requires prefix { prefix ≡ first_bytes 8 key.now }
         requires bytes { AreBytes key.now }
-        requires order { AreShort self.now.keys self.now.numbers order.old }
         requires between { IsBetween self.now.keys key.now span.low span.high }
         requires few { probes.old ≤ 18446744073709551551 }
         ensures position { Finds self.now.keys key.now result }
@@ -217,6 +201,7 @@ impl SortedKeys {
     {
         let Span { low, high } = span;
         prove!(high <= self.len());
+        let mut order = self.order.reader();
         let mut low = low;
         let mut high = high;
         let mut most = high;
@@ -224,7 +209,7 @@ impl SortedKeys {
             most /= 2;
             let middle = between(low, high, most);
             *probes += 1;
-            match self.compare(key, prefix, middle, order) {
+            match self.compare(key, prefix, order.get(middle)) {
                 Ordering::Less => high = middle,
                 Ordering::Equal => return Ok(middle),
                 Ordering::Greater => low = middle + 1,
@@ -250,24 +235,25 @@ impl SortedKeys {
         self.keys.push_reserved(key);
     }
 
-    /// Compares a key, of which this is the prefix, with the one at a position.
+    /// What stands for the key at a position.
+    #[inline(always)]
+    fn short_at(&self, position: usize) -> &ShortKey
+        requires { position < length self.now.keys }
+        ensures { StandsFor self.now.keys self.now.numbers position result.now }
+    {
+        self.order.get(position)
+    }
+
+    /// Compares a key, of which this is the prefix, with another one of these, for which this stands.
     // Inlined, since a search does little else; the prefixes decide most comparisons.
     #[inline(always)]
-    fn compare(
-        &self,
-        key: &Key,
-        prefix: u64,
-        position: usize,
-        order: &mut Reader<'_, ShortKey>,
-    ) -> Ordering
+    fn compare(&self, key: &Key, prefix: u64, other: &ShortKey) -> Ordering
         requires prefix { prefix ≡ first_bytes 8 key.now }
         requires bytes { AreBytes key.now }
-        requires within { position < length self.now.keys }
-        requires order { AreShort self.now.keys self.now.numbers order.old }
-        ensures same { order.new ≡ order.old }
-        ensures ordered { (d : Name) → result ≡ name_cmp key.now (slice_index_or self.now.keys position d) }
+        requires other { (position : ℕ) × StandsFor self.now.keys self.now.numbers position other.now }
+        ensures { (position : ℕ) → StandsFor self.now.keys self.now.numbers position other.now
+            → (d : Name) → result ≡ name_cmp key.now (slice_index_or self.now.keys position d) }
     {
-        let other = order.get(position);
         match prefix.cmp(&other.prefix) {
             Ordering::Equal => key.cmp(&self.keys[other.number]),
             apart => apart,

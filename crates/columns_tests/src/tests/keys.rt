@@ -57,8 +57,9 @@ fn probes_for(alloc: Global, keys: &SortedKeys, text: &str, hint: usize) -> Resu
 fn assert_keys(rt: &impl Abort, keys: &SortedKeys, want: &[(&str, usize)]) {
     assert_eq!(rt; keys.len(), want.len());
     for (position, row) in want.iter().enumerate() {
-        let text = keys.at(position).as_str();
-        assert_eq!(rt; (text, keys.number(position)), *row, "at {position}");
+        let (key, number) = keys.at(position);
+        assert_eq!(rt; (key.as_str(), number), *row, "at {position}");
+        assert_eq!(rt; keys.number(position), number, "at {position}");
     }
 }
 

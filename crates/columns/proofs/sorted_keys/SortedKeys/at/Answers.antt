@@ -13,8 +13,8 @@ index-requires c =
     (number_at d.order.items c.args.position c.get.result.now c.get.ensures) c.self.invariant.0.are_numbers in
     search rules
 
-pub returns : goal.returns
-returns c =
+pub returns-clause-key : goal.returns-clause-key
+returns-clause-key c =
     let d = c.self.inside in
     let ks = d.keys.items in
     let n = c.get.result.now.number in
@@ -24,3 +24,8 @@ returns c =
     let there : slice_get ks n ≡ Some r = slice_get_read ks _ n r refl within c.index.ensures in
     ap (λ (m : Keys). slice_get m.keys c.args.position) (sym c.self.view_is)
     ∙ key_here ks (numbers_of d.order.items) c.args.position n is r there
+
+pub returns-clause-number : goal.returns-clause-number
+returns-clause-number c =
+    ap (λ (m : Keys). slice_get m.numbers c.args.position) (sym c.self.view_is)
+    ∙ number_at c.self.inside.order.items c.args.position c.get.result.now c.get.ensures

@@ -9,6 +9,9 @@ use Rattle.columns.proofs.sorted_keys.SortedKeys.narrow.Goals as goal
 inside : (hint count len : ℕ) → count ≡ len → hint < count → hint < len
 inside hint count len same apart = omega (arith, same, apart)
 
+pub compare-requires-clause-other : goal.compare-requires-clause-other
+compare-requires-clause-other c = (c.args.hint, c.short_at.ensures)
+
 pub returns-in-Greater-clause-between : goal.returns-in-Greater-clause-between
 returns-in-Greater-clause-between c =
     let keys = c.args.self.now.keys in
@@ -16,7 +19,7 @@ returns-in-Greater-clause-between c =
     let within : hint < length keys = inside hint c.len-count.result (length keys) c.len-count.ensures.length c.if-hint-count.false in
     let behind = sought_behind name_cmp c.args.key.now keys 0 (length keys) hint (get_or keys hint [])
     (sought_in name_cmp c.args.key.now keys (length keys) refl) within (is_there keys hint within) name_total c.len-count.ensures.rising
-    (sym (c.compare.ensures.ordered []) ∙ c.in-Greater.is) in
+    (sym (c.compare.ensures c.args.hint c.short_at.ensures []) ∙ c.in-Greater.is) in
     let all = c.len-count.ensures.length in
     record {
       above = behind.above;
@@ -27,7 +30,7 @@ returns-in-Greater-clause-between c =
 pub returns-in-Less-clause-hinted : goal.returns-in-Less-clause-hinted
 returns-in-Less-clause-hinted c = λ there.
     let tied = ties_at c.args.self.now.keys c.args.key.now c.args.hint there in
-    let less = sym (c.compare.ensures.ordered []) ∙ c.in-Less.is in
+    let less = sym (c.compare.ensures c.args.hint c.short_at.ensures []) ∙ c.in-Less.is in
     cc
 
 pub returns-in-Equal-clause-found : goal.returns-in-Equal-clause-found
@@ -36,10 +39,10 @@ returns-in-Equal-clause-found c =
     found_here keys c.args.key.now c.len-count.ensures.rising 0 (length keys) c.args.hint
     (sought_in name_cmp c.args.key.now keys (length keys) refl)
     (inside c.args.hint c.len-count.result (length keys) c.len-count.ensures.length c.if-hint-count.false)
-    (sym (c.compare.ensures.ordered []) ∙ c.in-Equal.is)
+    (sym (c.compare.ensures c.args.hint c.short_at.ensures []) ∙ c.in-Equal.is)
 
 pub returns-in-Greater-clause-hinted : goal.returns-in-Greater-clause-hinted
 returns-in-Greater-clause-hinted c = λ there.
     let tied = ties_at c.args.self.now.keys c.args.key.now c.args.hint there in
-    let greater = sym (c.compare.ensures.ordered []) ∙ c.in-Greater.is in
+    let greater = sym (c.compare.ensures c.args.hint c.short_at.ensures []) ∙ c.in-Greater.is in
     cc

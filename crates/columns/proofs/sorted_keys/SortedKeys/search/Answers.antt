@@ -1,9 +1,10 @@
-use Rattle.std.proofs.Common.{◌≤◌, ◌<◌, ◌+◌, ◌/◌, ◌^◌, ◌∙◌, ℕ, [], sym, subst, arith, get_or}
+use Rattle.std.proofs.Common.{◌≤◌, ◌<◌, ◌+◌, ◌/◌, ◌^◌, ◌∙◌, ℕ, [], refl, sym, subst, arith, get_or}
 use Rattle.semantics.specs.Elements.{name_cmp}
 use Rattle.semantics.proofs.Orders.{name_total}
-use Rattle.columns.specs.ShortKeys.{AreShort}
+use Rattle.columns.specs.Keys.{Keys}
 use Rattle.columns.proofs.Halves.{halved}
 use Rattle.columns.proofs.HintedKeys.{found_here, is_there, sought_between}
+use Rattle.columns.proofs.ShortKeys.{AreShort, stands_for}
 use Rattle.columns.proofs.Sought.{sought_before, sought_behind, sought_nowhere}
 use Rattle.columns.proofs.sorted_keys.SortedKeys.search.Goals as goal
 
@@ -22,7 +23,9 @@ loop-low-init c =
       sought =
           sought_between c.args.self.now.keys c.args.key.now c.args.span.low c.args.span.high c.requires.between.above
           c.requires.between.within c.requires.between.next;
-      order = c.requires.order;
+      order = subst (AreShort c.args.self.now.keys c.args.self.now.numbers) (sym c.reader-order.ensures)
+          (subst (λ (m : Keys). AreShort m.keys m.numbers c.self.inside.order.items) c.self.view_is
+          (record { are_numbers = refl; are_prefixes = c.self.invariant.1 }));
       most = omega arith;
       probes = λ k few. (k, few, omega arith);
       counted = omega arith;
@@ -34,11 +37,14 @@ between-middle-requires-clause-most c =
     let most = c.loop-low.invariant.most in
     omega (arith, most)
 
-pub compare-requires-clause-within : goal.compare-requires-clause-within
-compare-requires-clause-within c =
+pub compare-requires-clause-other : goal.compare-requires-clause-other
+compare-requires-clause-other c =
     let inside = c.between-middle.ensures.inside in
-    let most = c.loop-low.invariant.sought.within in
-    omega (arith, inside, most)
+    let most = c.loop-low.invariant.sought.within in (
+      c.between-middle.result,
+      stands_for c.args.self.now.keys c.args.self.now.numbers c.loop-low.order c.between-middle.result c.get.result.now
+          c.loop-low.invariant.order (omega (arith, inside, most)) c.get.ensures.item,
+    )
 
 pub overflow_add-probes : goal.overflow_add-probes
 overflow_add-probes c =
@@ -63,12 +69,14 @@ loop-low-preserved-in-Less c =
     let within = inv.sought.within in
     let keys = c.args.self.now.keys in
     let middle = c.between-middle.result in
+    let stands = stands_for keys c.args.self.now.numbers c.loop-low.order middle c.get.result.now inv.order (omega (arith, inside, within))
+    c.get.ensures.item in
     record {
       sought =
           sought_before name_cmp c.args.key.now keys c.loop-low.low c.loop-low.high middle (get_or keys middle []) inv.sought inside
           (is_there keys middle (omega (arith, inside, within)))
-          (sym (c.compare.ensures.ordered []) ∙ c.in-Less.is);
-      order = subst (AreShort keys c.args.self.now.numbers) (sym c.compare.ensures.same) inv.order;
+          (sym (c.compare.ensures middle stands []) ∙ c.in-Less.is);
+      order = subst (AreShort keys c.args.self.now.numbers) (sym c.get.ensures.same) inv.order;
       most = before;
       probes = one_more c.loop-low.most c.loop-low.probes c.args.probes.now c.args.span.high (omega (arith, apart, most)) inv.probes;
       counted = omega (arith, counted);
@@ -77,8 +85,15 @@ loop-low-preserved-in-Less c =
 
 pub returns-in-Equal-clause-position : goal.returns-in-Equal-clause-position
 returns-in-Equal-clause-position c =
-    found_here c.args.self.now.keys c.args.key.now c.len.ensures.rising c.loop-low.low c.loop-low.high c.between-middle.result
-    c.loop-low.invariant.sought c.between-middle.ensures.inside (sym (c.compare.ensures.ordered []) ∙ c.in-Equal.is)
+    let inv = c.loop-low.invariant in
+    let inside = c.between-middle.ensures.inside in
+    let within = inv.sought.within in
+    let keys = c.args.self.now.keys in
+    let middle = c.between-middle.result in
+    let stands = stands_for keys c.args.self.now.numbers c.loop-low.order middle c.get.result.now inv.order (omega (arith, inside, within))
+    c.get.ensures.item in
+    found_here keys c.args.key.now c.len.ensures.rising c.loop-low.low c.loop-low.high middle inv.sought inside
+    (sym (c.compare.ensures middle stands []) ∙ c.in-Equal.is)
 
 pub loop-low-preserved : goal.loop-low-preserved
 loop-low-preserved c =
@@ -91,12 +106,14 @@ loop-low-preserved c =
     let within = inv.sought.within in
     let keys = c.args.self.now.keys in
     let middle = c.between-middle.result in
+    let stands = stands_for keys c.args.self.now.numbers c.loop-low.order middle c.get.result.now inv.order (omega (arith, inside, within))
+    c.get.ensures.item in
     record {
       sought =
           sought_behind name_cmp c.args.key.now keys c.loop-low.low c.loop-low.high middle (get_or keys middle []) inv.sought inside
           (is_there keys middle (omega (arith, inside, within))) name_total c.len.ensures.rising
-          (sym (c.compare.ensures.ordered []) ∙ c.in-Greater.is);
-      order = subst (AreShort keys c.args.self.now.numbers) (sym c.compare.ensures.same) inv.order;
+          (sym (c.compare.ensures middle stands []) ∙ c.in-Greater.is);
+      order = subst (AreShort keys c.args.self.now.numbers) (sym c.get.ensures.same) inv.order;
       most = omega (arith, behind);
       probes = one_more c.loop-low.most c.loop-low.probes c.args.probes.now c.args.span.high (omega (arith, apart, most)) inv.probes;
       counted = omega (arith, counted);

@@ -1,6 +1,6 @@
 use Rattle.std.proofs.Common.{◌≤◌, ◌<◌, ◌-◌, ◌+◌, ◌^◌, ℕ}
 use Rattle.semantics.specs.Elements.{name_cmp}
-use Rattle.columns.specs.ShortKeys.{AreShort}
+use Rattle.columns.proofs.ShortKeys.{AreShort}
 use Rattle.columns.proofs.Sought.{IsSought}
 use Rattle.columns.proofs.sorted_keys.SortedKeys.search.Given as goal
 
