@@ -1,2 +1,3 @@
 -- What a list in chunks is to contracts.
 pub mod Chunks
+pub mod Places

@@ -3,6 +3,7 @@
 ghost use Rattle.std.specs.Prelude.{◌≡◌, ◌≤◌, ◌<◌, ◌+◌, [], length, take, drop, Some, slice_get, IfOk, OnErr, OnOk};
 ghost use Rattle.std.specs.List.{insert};
 
+use crate::chunks::MOST;
 use rings::insert_reserved;
 use std::alloc::{AllocError, Global};
 use std::marker::Model;
@@ -98,7 +99,8 @@ impl<T: Copy + Drop> Chunk<T> {
         ensures kept { self.old.room ≤ self.new.room }
     {
         let behind = &self.items[at..];
-        let mut items = Vec::with_capacity(*self.items.allocator(), behind.len() + 1)?;
+        // Allocated once, for as many items as a chunk has at most.
+        let mut items = Vec::with_capacity(*self.items.allocator(), MOST.max(behind.len() + 1))?;
         items.extend_from_slice(behind)?;
         self.items.truncate(at);
         Ok(Chunk { items })

@@ -86,30 +86,40 @@ impl<T: Copy + Drop> Chunks<T> {
     pub fn reader(&self) -> Reader<'_, T>
         ensures { result ≡ self.now.items }
     {
-        let start = start_of_last(&self.front);
-        Reader::new(
-            self,
-            Part {
-                start,
-                items: self.last.items(),
-            },
-        )
+        match &self.front {
+            None => Reader::of_only(self.last.items()),
+            Some(front) => Reader::of_parts(
+                self,
+                Part {
+                    start: front.len(),
+                    chunk: &self.last,
+                },
+            ),
+        }
     }
 
     /// The chunk in which a position is. Looks at a few chunks, however many there are.
-    #[inline(never)]
+    // Inlined in the two functions that read one of several chunks, which aren't.
+    #[inline(always)]
     pub(crate) fn part(&self, position: usize) -> Part<'_, T>
         requires { position < length self.now.items }
-        ensures here { IsIn position result.start result.items.now }
-        ensures part { IsPart self.now.items result.start result.items.now }
+        ensures here { IsIn position result.start result.chunk.now.items }
+        ensures part { IsPart self.now.items result.start result.chunk.now.items }
     {
-        let start = start_of_last(&self.front);
-        match &self.front {
-            Some(front) if position < start => front.part(position),
-            _ => Part {
+        let Some(front) = &self.front else {
+            return Part {
+                start: 0,
+                chunk: &self.last,
+            };
+        };
+        let start = front.len();
+        if position < start {
+            front.part(position)
+        } else {
+            Part {
                 start,
-                items: self.last.items(),
-            },
+                chunk: &self.last,
+            }
         }
     }
 

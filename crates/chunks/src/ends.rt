@@ -1,6 +1,6 @@
 //! Where the chunks of a list end.
 
-ghost use Rattle.std.specs.Prelude.{◌≡◌, ◌≤◌, ◌<◌, ◌++◌, suc, [], length, map, take, drop, OnOk, slice_index_or};
+ghost use Rattle.std.specs.Prelude.{◌≡◌, ◌≤◌, ◌<◌, ◌++◌, suc, [], length, map, take, drop, IfSome, OnOk, slice_index_or};
 ghost use Rattle.std.specs.List.{All, insert};
 ghost use Rattle.chunks.specs.Chunks.{IsSpot, start_of};
 
@@ -24,8 +24,9 @@ pub(crate) struct Spot {
 #[derive(Debug, Drop)]
 pub(crate) struct Ends {
     ends: Vec<usize>,
-    /// For each 64th position a chunk near it, from which a search goes step by step. Made anew when a chunk comes in, and after each 64
-    /// items that go into one, so these are few steps.
+    /// For each 64th position the chunk that it was in when this was made, which mostly is that of the positions behind it too. Where it
+    /// isn't, a search goes from there step by step. Made anew when a chunk comes in, and after each 64 items that go into one, so these
+    /// are few steps.
     guide: Vec<usize>,
 }
 
@@ -62,6 +63,15 @@ impl Ends {
         ensures { result ≡ start_of self.now.ends chunk }
     {
         start(&self.ends, chunk)
+    }
+
+    /// The chunk in which a position is, and the index in it, if the guide says it right, as it mostly does.
+    #[inline(always)]
+    pub fn guided(&self, position: usize) -> Option<Spot>
+        ensures { IfSome result (λ spot. IsSpot self.now.ends position spot) }
+    {
+        let chunk = *self.guide.get(position / STEP)?;
+        spot_in(&self.ends, chunk, position)
     }
 
     /// The chunk in which a position is, and the index in it. Looks at a few chunks.
@@ -126,6 +136,23 @@ fn start(ends: &[usize], chunk: usize) -> usize
     ensures { result ≡ start_of ends.now chunk }
 {
     if chunk == 0 { 0 } else { ends[chunk - 1] }
+}
+
+/// The index of a position in a chunk, if it is in this one.
+#[inline(always)]
+fn spot_in(ends: &[usize], chunk: usize, position: usize) -> Option<Spot>
+    ensures { IfSome result (λ spot. IsSpot ends.now position spot) }
+{
+    let end = *ends.get(chunk)?;
+    let start = start(ends, chunk);
+    if start <= position && position < end {
+        Some(Spot {
+            chunk,
+            index: position - start,
+        })
+    } else {
+        None
+    }
 }
 
 /// The chunk in which a position is, and the index in it. Goes from chunk to chunk, beginning near this one.

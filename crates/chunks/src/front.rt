@@ -2,11 +2,11 @@
 
 ghost use Rattle.std.specs.Prelude.{◌≡◌, ◌≤◌, ◌<◌, ◌+◌, ◌++◌, [], length, slice_index_or, min, OnErr, OnOk};
 ghost use Rattle.std.specs.List.{insert};
-ghost use Rattle.chunks.specs.Chunks.{AreRoomyBut, IsIn, IsPart, Sequence, ends_from, joined, room_at};
+ghost use Rattle.chunks.specs.Chunks.{AreRoomyBut, IsIn, IsPart, IsSpot, Sequence, ends_from, joined, room_at};
 
 use crate::chunk::Chunk;
 use crate::chunks::MOST;
-use crate::ends::Ends;
+use crate::ends::{Ends, Spot};
 use crate::reader::Part;
 use rings::insert_reserved;
 use std::alloc::{AllocError, Global};
@@ -60,16 +60,27 @@ impl<T: Copy + Drop> Front<T> {
     }
 
     /// The chunk in which a position is.
+    #[inline(always)]
     pub fn part(&self, position: usize) -> Part<'_, T>
         requires { position < length self.now.items }
-        ensures here { IsIn position result.start result.items.now }
-        ensures part { IsPart self.now.items result.start result.items.now }
+        ensures here { IsIn position result.start result.chunk.now.items }
+        ensures part { IsPart self.now.items result.start result.chunk.now.items }
     {
-        let spot = self.ends.spot(position);
-        Part {
-            start: position - spot.index,
-            items: self.chunks[spot.chunk].items(),
+        match self.ends.guided(position) {
+            Some(spot) => part_at(&self.chunks, spot, position),
+            None => self.part_nearby(position),
         }
+    }
+
+    /// The chunk in which a position is, where the guide is wrong.
+    // Not inlined, so that a read that the guide leads needs no stack.
+    #[inline(never)]
+    fn part_nearby(&self, position: usize) -> Part<'_, T>
+        requires { position < length self.now.items }
+        ensures here { IsIn position result.start result.chunk.now.items }
+        ensures part { IsPart self.now.items result.start result.chunk.now.items }
+    {
+        part_at(&self.chunks, self.ends.spot(position), position)
     }
 
     /// Inserts an item before another one. Allocates nothing. Shifts the items behind it in its chunk, and adds 1 to the end of each chunk
@@ -132,6 +143,19 @@ impl<T: Copy + Drop> Front<T> {
         self.ends.insert(self.chunks.len(), end);
         self.chunks.push_reserved(first);
         Ok(())
+    }
+}
+
+/// The chunk in which a position is.
+#[inline(always)]
+fn part_at<T: Copy + Drop>(chunks: &[Chunk<T>], spot: Spot, position: usize) -> Part<'_, T>
+    requires { IsSpot (ends_from 0 chunks.now) position spot }
+    ensures here { IsIn position result.start result.chunk.now.items }
+    ensures part { IsPart (joined chunks.now) result.start result.chunk.now.items }
+{
+    Part {
+        start: position - spot.index,
+        chunk: &chunks[spot.chunk],
     }
 }
 

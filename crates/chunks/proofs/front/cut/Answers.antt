@@ -1,13 +1,12 @@
-use Rattle.std.proofs.Common.{rules, ◌≡◌, ◌<◌, ◌≤◌, ◌+◌, ◌∙◌, ap, refl, sym, subst, suc, length, get_or, slice_get, Some}
+use Rattle.std.proofs.Common.{rules, ◌<◌, ◌≤◌, ◌+◌, ◌∙◌, ap, sym, subst, suc, length, get_or}
 use Rattle.std.proofs.Common.{arith}
 use Rattle.std.specs.List.{insert}
 use Rattle.std.proofs.lemmas.List.{length-drop, length-take-le}
-use Rattle.std.proofs.lemmas.Option.{slice_get_read}
 use Rattle.chunks.specs.Chunks.{AreRoomyBut, Sequence, ends_from, joined, room_at}
 use Rattle.chunks.proofs.Joined.{joined_cut, joined_same}
 use Rattle.chunks.proofs.Positions.{before_most, before_next, ends_cut, ends_same}
 use Rattle.chunks.proofs.Spare.{but_cut, but_set, room_cut, room_here, room_set}
-use Rattle.chunks.proofs.Spots.{many, start_is}
+use Rattle.chunks.proofs.Spots.{many, read_after, start_is}
 use Rattle.chunks.proofs.front.cut.Goals as goal
 
 pub returns-in_err-back-clause-items : goal.returns-in_err-back-clause-items
@@ -15,8 +14,7 @@ returns-in_err-back-clause-items g c =
     let cs = c.reserve.new.self.items in
     let k = c.args.put in
     let r = c.index_mut.result.now in
-    let inside = subst (λ xs. k < length xs) (sym c.reserve.ensures.items) c.requires.inside in
-    let is : slice_get cs k ≡ Some r = slice_get_read cs _ k r refl inside c.index_mut.ensures.value in
+    let is = read_after c.args.chunks.now.items cs k r c.reserve.ensures.items c.requires.inside c.index_mut.ensures.value in
     joined_same k cs r c.split_off.new.self is c.in_err-back.ensures.refused ∙ ap joined c.reserve.ensures.items
 
 pub returns-in_err-back-clause-ends : goal.returns-in_err-back-clause-ends
@@ -24,8 +22,7 @@ returns-in_err-back-clause-ends g c =
     let cs = c.reserve.new.self.items in
     let k = c.args.put in
     let r = c.index_mut.result.now in
-    let inside = subst (λ xs. k < length xs) (sym c.reserve.ensures.items) c.requires.inside in
-    let is : slice_get cs k ≡ Some r = slice_get_read cs _ k r refl inside c.index_mut.ensures.value in
+    let is = read_after c.args.chunks.now.items cs k r c.reserve.ensures.items c.requires.inside c.index_mut.ensures.value in
     c.reserve_one.ensures.same ∙ c.requires.ends ∙ ap (ends_from 0) (sym c.reserve.ensures.items)
     ∙ sym (ends_same 0 k cs r c.split_off.new.self is c.in_err-back.ensures.refused)
 
@@ -40,7 +37,7 @@ returns-in_err-back-clause-kept g c =
     let k = c.args.put in
     let r = c.index_mut.result.now in
     let inside = subst (λ xs. k < length xs) (sym c.reserve.ensures.items) c.requires.inside in
-    let is : slice_get cs k ≡ Some r = slice_get_read cs _ k r refl inside c.index_mut.ensures.value in
+    let is = read_after c.args.chunks.now.items cs k r c.reserve.ensures.items c.requires.inside c.index_mut.ensures.value in
     let was = ap (λ xs. room_at xs k) c.reserve.ensures.items in
     let before = room_here k cs r is in
     let after = room_set k cs c.split_off.new.self inside in
@@ -67,7 +64,7 @@ overflow_add-start g c =
     let k = c.args.put in
     let r = c.index_mut.result.now in
     let inside = subst (λ xs. k < length xs) (sym c.reserve.ensures.items) c.requires.inside in
-    let is : slice_get cs k ≡ Some r = slice_get_read cs _ k r refl inside c.index_mut.ensures.value in
+    let is = read_after c.args.chunks.now.items cs k r c.reserve.ensures.items c.requires.inside c.index_mut.ensures.value in
     let are = c.reserve_one.ensures.same ∙ c.requires.ends ∙ ap (ends_from 0) (sym c.reserve.ensures.items) in
     let from = c.start.ensures ∙ start_is c.reserve_one.new.self.ends cs are k (omega (arith, inside)) in
     let next = before_next k cs r is in
@@ -84,8 +81,7 @@ returns-clause-items g c =
     let cs = c.reserve.new.self.items in
     let k = c.args.put in
     let r = c.index_mut.result.now in
-    let inside = subst (λ xs. k < length xs) (sym c.reserve.ensures.items) c.requires.inside in
-    let is : slice_get cs k ≡ Some r = slice_get_read cs _ k r refl inside c.index_mut.ensures.value in
+    let is = read_after c.args.chunks.now.items cs k r c.reserve.ensures.items c.requires.inside c.index_mut.ensures.value in
     ap joined c.insert_reserved.ensures.items
     ∙ joined_cut k 256 cs r c.split_off.new.self c.in_ok-back.back is c.in_ok-back.ensures.items c.in_ok-back.ensures.back_items
     ∙ ap joined c.reserve.ensures.items
@@ -99,7 +95,7 @@ returns-clause-ends g c =
     let b = c.in_ok-back.back in
     let e = c.start.result + 256 in
     let inside = subst (λ xs. k < length xs) (sym c.reserve.ensures.items) c.requires.inside in
-    let is : slice_get cs k ≡ Some r = slice_get_read cs _ k r refl inside c.index_mut.ensures.value in
+    let is = read_after c.args.chunks.now.items cs k r c.reserve.ensures.items c.requires.inside c.index_mut.ensures.value in
     let are = c.reserve_one.ensures.same ∙ c.requires.ends ∙ ap (ends_from 0) (sym c.reserve.ensures.items) in
     let from = c.start.ensures ∙ start_is c.reserve_one.new.self.ends cs are k (omega (arith, inside)) in
     let full : 512 ≤ length r.items = subst (λ (o : Sequence g.row.T.Denot). 512 ≤ length o.items)
@@ -135,7 +131,7 @@ returns-clause-kept g c =
     let k = c.args.put in
     let r = c.index_mut.result.now in
     let inside = subst (λ xs. k < length xs) (sym c.reserve.ensures.items) c.requires.inside in
-    let is : slice_get cs k ≡ Some r = slice_get_read cs _ k r refl inside c.index_mut.ensures.value in
+    let is = read_after c.args.chunks.now.items cs k r c.reserve.ensures.items c.requires.inside c.index_mut.ensures.value in
     let was = ap (λ xs. room_at xs k) c.reserve.ensures.items in
     let before = room_here k cs r is in
     let here = ap (λ xs. room_at xs k) c.insert_reserved.ensures.items ∙ room_cut k cs c.split_off.new.self c.in_ok-back.back inside in

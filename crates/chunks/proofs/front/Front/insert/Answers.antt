@@ -1,13 +1,12 @@
-use Rattle.std.proofs.Common.{rules, ◌≡◌, ◌<◌, ◌+◌, ◌++◌, ◌∙◌, ap, sym, refl, subst, suc, map, take, drop, length, slice_get, Some}
+use Rattle.std.proofs.Common.{rules, ◌≡◌, ◌<◌, ◌+◌, ◌++◌, ◌∙◌, ap, sym, subst, suc, map, take, drop, length}
 use Rattle.std.proofs.Common.{arith}
 use Rattle.std.specs.List.{All, insert}
 use Rattle.std.proofs.lemmas.List.Edits.{length-insert}
-use Rattle.std.proofs.lemmas.Option.{slice_get_read}
 use Rattle.chunks.specs.Chunks.{Sequence, joined}
 use Rattle.chunks.proofs.Joined.{joined_put}
 use Rattle.chunks.proofs.Positions.{ends_few, ends_more}
 use Rattle.chunks.proofs.Spare.{all_roomy, but_one, roomy_at}
-use Rattle.chunks.proofs.Spots.{last_is, spot_here, spot_inside, spot_within}
+use Rattle.chunks.proofs.Spots.{last_is, spot_here, spot_inside, spot_read, spot_within}
 use Rattle.chunks.proofs.front.Front.insert.Goals as goal
 
 pub spot-spot-requires : goal.spot-spot-requires
@@ -30,8 +29,7 @@ put-requires-clause-within g c =
     let cs = d.chunks.items in
     let spot = c.spot-spot.result in
     let r = c.index_mut.result.now in
-    let inside = spot_inside d.ends.ends cs c.self.invariant.0 c.args.position spot c.spot-spot.ensures in
-    let is : slice_get cs spot.chunk ≡ Some r = slice_get_read cs _ spot.chunk r refl inside c.index_mut.ensures.value in
+    let is = spot_read d.ends.ends cs c.self.invariant.0 c.args.position spot c.spot-spot.ensures r c.index_mut.ensures.value in
     let within = spot_within d.ends.ends cs c.self.invariant.0 c.args.position spot c.spot-spot.ensures r is in
     omega (arith, within)
 
@@ -41,8 +39,7 @@ put-requires-clause-room g c =
     let cs = d.chunks.items in
     let spot = c.spot-spot.result in
     let r = c.index_mut.result.now in
-    let inside = spot_inside d.ends.ends cs c.self.invariant.0 c.args.position spot c.spot-spot.ensures in
-    let is : slice_get cs spot.chunk ≡ Some r = slice_get_read cs _ spot.chunk r refl inside c.index_mut.ensures.value in
+    let is = spot_read d.ends.ends cs c.self.invariant.0 c.args.position spot c.spot-spot.ensures r c.index_mut.ensures.value in
     let room = ap (λ (m : Sequence g.row.T.Denot). m.room) c.self.view_is in
     let some = c.requires.room in
     roomy_at spot.chunk cs r (all_roomy d.put cs c.self.invariant.1 (omega (arith, room, some))) is
@@ -63,8 +60,7 @@ invariant_of-self g c =
     let k = spot.chunk in
     let r = c.index_mut.result.now in
     let q = c.put.new.self in
-    let inside = spot_inside d.ends.ends cs c.self.invariant.0 c.args.position spot c.spot-spot.ensures in
-    let is : slice_get cs k ≡ Some r = slice_get_read cs _ k r refl inside c.index_mut.ensures.value in
+    let is = spot_read d.ends.ends cs c.self.invariant.0 c.args.position spot c.spot-spot.ensures r c.index_mut.ensures.value in
     let within = spot_within d.ends.ends cs c.self.invariant.0 c.args.position spot c.spot-spot.ensures r is in
     let more : length q.items ≡ length r.items + 1 = ap length c.put.ensures.items
     ∙ length-insert r.items spot.index c.args.item (omega (arith, within)) in
@@ -81,8 +77,7 @@ returns-clause-items g c =
     let spot = c.spot-spot.result in
     let k = spot.chunk in
     let r = c.index_mut.result.now in
-    let inside = spot_inside d.ends.ends cs c.self.invariant.0 c.args.position spot c.spot-spot.ensures in
-    let is : slice_get cs k ≡ Some r = slice_get_read cs _ k r refl inside c.index_mut.ensures.value in
+    let is = spot_read d.ends.ends cs c.self.invariant.0 c.args.position spot c.spot-spot.ensures r c.index_mut.ensures.value in
     let within = spot_within d.ends.ends cs c.self.invariant.0 c.args.position spot c.spot-spot.ensures r is in
     joined_put k cs r c.put.new.self spot.index c.args.item is (omega (arith, within)) c.put.ensures.items
     ∙ ap (λ i. insert (joined cs) i c.args.item)
