@@ -12,7 +12,7 @@ numbers_of order = map (λ s. s.number) order
 abbrev pub prefixes_of : List ShortKey → List ℕ
 prefixes_of order = map (λ s. s.prefix) order
 
--- it stands for the key at a position: it has its number and its first eight bytes
+-- there is a key at a position, made of bytes, and this stands for it: it has its number and its first eight bytes
 pub record StandsFor (keys : List Name) (numbers : List ℕ) (position : ℕ) (short : ShortKey) : Type 0 where
   pub within : position < length keys
   pub number : slice_get numbers position ≡ Some short.number

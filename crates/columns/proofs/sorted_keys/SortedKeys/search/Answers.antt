@@ -2,10 +2,12 @@ use Rattle.std.proofs.Common.{◌≤◌, ◌<◌, ◌+◌, ◌/◌, ◌^◌, ◌
 use Rattle.semantics.specs.Elements.{name_cmp}
 use Rattle.semantics.proofs.Orders.{name_total}
 use Rattle.columns.specs.Keys.{Keys}
+use Rattle.columns.specs.ShortKeys.{StandsFor}
 use Rattle.columns.proofs.Halves.{halved}
 use Rattle.columns.proofs.HintedKeys.{found_here, is_there, sought_between}
 use Rattle.columns.proofs.ShortKeys.{AreShort, stands_for}
 use Rattle.columns.proofs.Sought.{sought_before, sought_behind, sought_nowhere}
+use Rattle.columns.proofs.sorted_keys.SortedKeys.search.Goals.{After-get}
 use Rattle.columns.proofs.sorted_keys.SortedKeys.search.Goals as goal
 
 -- one more comparison halves how many keys there may be
@@ -37,14 +39,16 @@ between-middle-requires-clause-most c =
     let most = c.loop-low.invariant.most in
     omega (arith, most)
 
-pub compare-requires-clause-other : goal.compare-requires-clause-other
-compare-requires-clause-other c =
+-- what is read stands for the key in the middle
+middle_stands : (c : After-get) → StandsFor c.args.self.now.keys c.args.self.now.numbers c.between-middle.result c.get.result.now
+middle_stands c =
     let inside = c.between-middle.ensures.inside in
-    let most = c.loop-low.invariant.sought.within in (
-      c.between-middle.result,
-      stands_for c.args.self.now.keys c.args.self.now.numbers c.loop-low.order c.between-middle.result c.get.result.now
-          c.loop-low.invariant.order (omega (arith, inside, most)) c.get.ensures.item,
-    )
+    let within = c.loop-low.invariant.sought.within in
+    stands_for c.args.self.now.keys c.args.self.now.numbers c.loop-low.order c.between-middle.result c.get.result.now
+    c.loop-low.invariant.order (omega (arith, inside, within)) c.get.ensures.item
+
+pub compare-requires-clause-other : goal.compare-requires-clause-other
+compare-requires-clause-other c = (c.between-middle.result, middle_stands (goal.at.compare-requires-clause-other c).After-get)
 
 pub overflow_add-probes : goal.overflow_add-probes
 overflow_add-probes c =
@@ -69,13 +73,11 @@ loop-low-preserved-in-Less c =
     let within = inv.sought.within in
     let keys = c.args.self.now.keys in
     let middle = c.between-middle.result in
-    let stands = stands_for keys c.args.self.now.numbers c.loop-low.order middle c.get.result.now inv.order (omega (arith, inside, within))
-    c.get.ensures.item in
     record {
       sought =
           sought_before name_cmp c.args.key.now keys c.loop-low.low c.loop-low.high middle (get_or keys middle []) inv.sought inside
           (is_there keys middle (omega (arith, inside, within)))
-          (sym (c.compare.ensures middle stands []) ∙ c.in-Less.is);
+          (sym (c.compare.ensures middle (middle_stands (goal.at.loop-low-preserved-in-Less c).After-get) []) ∙ c.in-Less.is);
       order = subst (AreShort keys c.args.self.now.numbers) (sym c.get.ensures.same) inv.order;
       most = before;
       probes = one_more c.loop-low.most c.loop-low.probes c.args.probes.now c.args.span.high (omega (arith, apart, most)) inv.probes;
@@ -90,10 +92,8 @@ returns-in-Equal-clause-position c =
     let within = inv.sought.within in
     let keys = c.args.self.now.keys in
     let middle = c.between-middle.result in
-    let stands = stands_for keys c.args.self.now.numbers c.loop-low.order middle c.get.result.now inv.order (omega (arith, inside, within))
-    c.get.ensures.item in
     found_here keys c.args.key.now c.len.ensures.rising c.loop-low.low c.loop-low.high middle inv.sought inside
-    (sym (c.compare.ensures middle stands []) ∙ c.in-Equal.is)
+    (sym (c.compare.ensures middle (middle_stands (goal.at.returns-in-Equal-clause-position c).After-get) []) ∙ c.in-Equal.is)
 
 pub loop-low-preserved : goal.loop-low-preserved
 loop-low-preserved c =
@@ -106,13 +106,11 @@ loop-low-preserved c =
     let within = inv.sought.within in
     let keys = c.args.self.now.keys in
     let middle = c.between-middle.result in
-    let stands = stands_for keys c.args.self.now.numbers c.loop-low.order middle c.get.result.now inv.order (omega (arith, inside, within))
-    c.get.ensures.item in
     record {
       sought =
           sought_behind name_cmp c.args.key.now keys c.loop-low.low c.loop-low.high middle (get_or keys middle []) inv.sought inside
           (is_there keys middle (omega (arith, inside, within))) name_total c.len.ensures.rising
-          (sym (c.compare.ensures middle stands []) ∙ c.in-Greater.is);
+          (sym (c.compare.ensures middle (middle_stands (goal.at.loop-low-preserved c).After-get) []) ∙ c.in-Greater.is);
       order = subst (AreShort keys c.args.self.now.numbers) (sym c.get.ensures.same) inv.order;
       most = omega (arith, behind);
       probes = one_more c.loop-low.most c.loop-low.probes c.args.probes.now c.args.span.high (omega (arith, apart, most)) inv.probes;

@@ -1,7 +1,7 @@
 use Rattle.std.proofs.Common.{◌≡◌, ◌<◌, ℕ, List, arith, get_or, Fits, w8}
 use Rattle.columns.specs.Prefix.{AreBytes, first_bytes}
 use Rattle.columns.proofs.Prefixes.{bytes_from, prefix_fits}
-use Rattle.columns.proofs.prefix.short_prefix_of.Goals as goal
+use Rattle.columns.proofs.prefix.complete.Goals as goal
 
 -- the items of a slice of bytes
 bytes_of : (name : List ℕ) → ((i : ℕ) → Fits w8 (get_or name i 0)) → AreBytes name
