@@ -11,7 +11,7 @@ ghost use Rattle.tree.specs.Shown.{AreEmpty, AreShown};
 
 use crate::find::find;
 use crate::node::{Node, NodeNumber, node_at};
-use crate::walk::{count_fields, field_at, next_field};
+use crate::walk::{count_fields, keyed_field_at, next_field};
 use columns::{Presence, Register};
 use ids::{OpId, Refusal};
 use operation::{Expr, Key, Scalar, Tag};
@@ -216,8 +216,8 @@ fn present_keys(
         if keys.len() == count {
             return Ok(keys);
         }
-        if is_field(nodes, field_at(nodes, at, position)) {
-            let (key, _) = node_at(nodes, at).fields.at(position);
+        let (key, field) = keyed_field_at(nodes, at, position);
+        if is_field(nodes, field) {
             let key = key.clone()?;
             keys.push(key)?;
         }

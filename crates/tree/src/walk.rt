@@ -13,7 +13,7 @@ ghost use Rattle.tree.specs.Writes.{end_of};
 
 use crate::node::{Node, NodeNumber, node_at};
 use ids::OpId;
-use operation::Hop;
+use operation::{Hop, Key};
 
 /// How many fields have a node beneath this one.
 pub fn count_fields(nodes: &[Node], at: NodeNumber) -> usize
@@ -41,7 +41,23 @@ pub fn field_at(nodes: &[Node], at: NodeNumber, position: usize) -> NodeNumber
     ensures number { (e : Element) (d : Name × ℕ) → number nodes.now e ≡ Some at
         → number nodes.now (Field e (slice_index_or (links nodes.now at).0 position d).0) ≡ Some result }
 {
-    NodeNumber::new(node_at(nodes, at).fields.at(position).1)
+    let (_, field) = keyed_field_at(nodes, at, position);
+    field
+}
+
+/// A field's key and the number of its node, by the field's index.
+pub fn keyed_field_at(nodes: &[Node], at: NodeNumber, position: usize) -> (&Key, NodeNumber)
+    requires tree { IsTree nodes.now }
+    requires inside { at < length nodes.now }
+    requires within { position < length (links nodes.now at).0 }
+    ensures key { (d : Name × ℕ) → (slice_index_or (links nodes.now at).0 position d).0 ≡ result.0.now }
+    ensures above { at < result.1 }
+    ensures within { result.1 < length nodes.now }
+    ensures number { (e : Element) (d : Name × ℕ) → number nodes.now e ≡ Some at
+        → number nodes.now (Field e (slice_index_or (links nodes.now at).0 position d).0) ≡ Some result.1 }
+{
+    let (key, number) = node_at(nodes, at).fields.at(position);
+    (key, NodeNumber::new(number))
 }
 
 /// The index of the first field, from this one on, whose flag is raised, or how many fields there are: those that it skips are empty. Looks

@@ -3,7 +3,6 @@ use Rattle.std.proofs.Common.{arith, append-nil}
 use Rattle.std.proofs.Common.{Vec}
 use Rattle.std.proofs.Common.{Global}
 use Rattle.std.proofs.lemmas.List.{take_all}
-use Rattle.std.proofs.lemmas.Option.{get_or_from_slice_get}
 use Rattle.semantics.specs.Elements.{Field, Name}
 use Rattle.semantics.specs.DocumentAnswer.{is_any}
 use Rattle.tree.specs.Nodes.{context, links, links_of, names_in, node_in}
@@ -38,7 +37,8 @@ loop-position-preserved c = record {
       let d : Name × ℕ = ([], 0) in
       let p : Name → Bool = λ n. is_any ((context ns).presence (Field e n)) in
       let within : k < length fs = let n = c.count_fields-fields.ensures in omega arith in
-      let shows = sym (field_shows ns c.requires.tree e c.args.at k c.field_at.result d at within (c.field_at.ensures.number e d at))
+      let field = c.keyed_field_at-field in
+      let shows = sym (field_shows ns c.requires.tree e c.args.at k field.result.1 d at within (field.ensures.number e d at))
       ∙ sym c.is_field.ensures in
       let next = wanted_next ns p fs k d within
       ∙ ap (λ b. filter p (map (λ x. x.0) (names_in ns (take k fs))) ++ cond b ((get_or fs k d).0 ∷ []) []) shows in
@@ -47,9 +47,7 @@ loop-position-preserved c = record {
       (λ i low high. later.ensures.passed e i d at c.requires.empty low high) in
       elim c.if-is_field.branch [
         | then-is_field+in_ok-key+in_ok-push w ↦
-            let here = ap (λ o. (get_or (links_of o).0 k d).0) w.node_at.ensures in
-            let key = here ∙ ap (λ f. f.0) (get_or_from_slice_get _ k (w.at.result.0.now, w.at.result.1) d w.at.ensures)
-            ∙ sym w.in_ok-key.ensures.cases in
+            let key = c.keyed_field_at-field.ensures.key d ∙ sym w.in_ok-key.ensures.cases in
             ap (λ (v : Vec Name Global). v.items) w.keys-is ∙ w.in_ok-push.ensures.items
             ∙ ap (λ ks. ks ++ w.in_ok-key.key ∷ []) (c.loop-position.invariant.found e at)
             ∙ ap (λ n. filter p (map (λ x. x.0) (names_in ns (take k fs))) ++ n ∷ []) (sym key)
