@@ -71,7 +71,7 @@ impl<T: Copy + Drop> Chunks<T> {
     }
 
     /// The item at a position, wherever its chunk is.
-    // Not inlined, so that a read of the only chunk makes no room for a part.
+    // Not inlined, so that `get`, which is inlined, stays as short as a read of a vector.
     #[inline(never)]
     fn get_from_part(&self, position: usize) -> &T
         requires { position < length self.now.items }

@@ -65,7 +65,7 @@ impl Ends {
         start(&self.ends, chunk)
     }
 
-    /// The chunk in which a position is, and the index in it, if the guide says it right, as it mostly does.
+    /// The chunk in which a position is, and the index in it, if the guide names that chunk, as it mostly does.
     #[inline(always)]
     pub fn guided(&self, position: usize) -> Option<Spot>
         ensures { IfSome result (λ spot. IsSpot self.now.ends position spot) }
