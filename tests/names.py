@@ -65,7 +65,7 @@ def clauses():
 @functools.cache
 def words():
     """Each word of a source, script or edit, and the name of each."""
-    parts = [f"crates/*/{part}/**/*.*" for part in ("src", "specs", "proofs", "must-fail")]
+    parts = [f"crates/*/{part}/**/*.*" for part in ("src", "specs", "proofs", "must-fail", "wrong")]
     patterns = [*parts, "clients/**/*.py", "examples/**/*.py", "tests/*", "tools/*", "bench/*", ".ci/*", "jdoc", "crates.txt"]
     names = {it.stem for pattern in [*parts, "crates/*", "tests/scripts/*"] for it in TOP.glob(pattern)}
     found = set(re.findall(r"[\w-]+", text_of(*patterns)))
@@ -154,7 +154,7 @@ def has_test(crate, name):
 
 
 def has_edit(crate, name):
-    return (TOP / "crates" / crate / "must-fail" / f"{name}.edit").is_file()
+    return any((TOP / "crates" / crate / folder / f"{name}.edit").is_file() for folder in ("must-fail", "wrong"))
 
 
 def faults_in_claims(text):
