@@ -22,9 +22,6 @@ use std::alloc::{AllocError, Global};
 use std::marker::Model;
 use std::sync::Wait;
 
-#[cfg(test)]
-mod tests;
-
 /// What a step did.
 #[derive(Clone, Copy, Debug, PartialEq, Eq)]
 pub enum Step {
@@ -160,8 +157,9 @@ impl<N: EngineName> Writer<N> {
         self.show(rt)
     }
 
-    /// Goes on with a drain that ended early, and then handles up to a batch of submissions.
-    fn take_all(&mut self, rt: &impl Wait, alloc: Global)
+    /// The first part of a step that begins with nothing held: goes on with a drain that ended early, and then takes and handles up to a
+    /// batch of submissions. May spin behind a thread that is in the queue.
+    pub fn take_all(&mut self, rt: &impl Wait, alloc: Global)
         requires { length self.old.held ≡ 0 }
         ensures same { (self.new.clients ≡ self.old.clients) × (self.new.batch ≡ self.old.batch)
             × (self.new.published ≡ self.old.published)
@@ -178,6 +176,21 @@ impl<N: EngineName> Writer<N> {
             &mut self.held,
             self.batch,
         );
+    }
+
+    /// How many submissions are handled but not answered yet.
+    pub fn held_len(&self) -> usize
+        ensures { result ≡ length self.now.held }
+    {
+        self.held.len()
+    }
+
+    /// Whether all entries are published.
+    pub fn is_all_published(&self) -> bool
+        ensures { MatchBool result (self.now.published ≡ self.now.handler.replica.entries)
+            (length self.now.published < length self.now.handler.replica.entries) }
+    {
+        is_all_published(&self.publisher, &self.handler)
     }
 
     /// Whether nothing is held and all entries are published.
@@ -205,8 +218,9 @@ impl<N: EngineName> Writer<N> {
         Step::Published(count)
     }
 
-    /// Publishes all entries. `AllocError` if allocation fails; nothing changes then.
-    fn publish_all(&mut self, rt: &impl Wait) -> Result<(), AllocError>
+    /// The second part of a step: publishes all entries. Waits for readers of the copy that is brought up to date. `AllocError` if
+    /// allocation fails; nothing changes then.
+    pub fn publish_all(&mut self, rt: &impl Wait) -> Result<(), AllocError>
         ensures publishes { MatchResult result (λ _. self.new ≡ record self.old { published = self.old.handler.replica.entries })
             (λ _. self.new ≡ self.old) }
         ensures positive { 0 < self.new.batch }
@@ -214,8 +228,8 @@ impl<N: EngineName> Writer<N> {
         self.publisher.publish(rt)
     }
 
-    /// Answers what is held. All entries are published.
-    fn answer_all(&mut self)
+    /// The last part of a step: answers what is held, once all entries are published.
+    pub fn answer_all(&mut self)
         requires { self.old.published ≡ self.old.handler.replica.entries }
         ensures answers { self.new ≡ record self.old { held = [] } }
         ensures positive { 0 < self.new.batch }

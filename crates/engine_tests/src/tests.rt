@@ -1,5 +1,6 @@
 //! Engines on one thread, as tables of turns, and in threads.
 
+mod atomic_steps;
 mod batches;
 mod closing;
 mod playing;

@@ -5,22 +5,20 @@
 //! of two clients, a writer and a reader, and each answer is compared with what counting says: how many submissions were pushed, taken,
 //! published and answered.
 
-mod schedules;
+mod orders;
 
 ghost use Rattle.std.specs.Prelude.{◌≡◌};
 ghost use Rattle.ids.specs.Members.{in_order};
 
 use super::*;
-use crate::client::Client;
-use crate::closing::close;
-use crate::opening::{Parts, open, prepare};
-use command::{ReaderToken, Ticket};
-use ids::{Config, Refusal, ReplicaId};
-use replica::{Command, Expr, ExprStep as Hop, Key, Question, Reading, Reply, Scalar, Val};
-use schedules::{go_on, schedule};
+use document::{Question, Reading};
+use ids::ReplicaId;
+use operation::Command;
+use orders::{go_on, schedule};
 use std::marker::Brand;
 use std::process::Abort;
-use std::test::Fail;
+use std::sync::Wait;
+use value::{Scalar, Val};
 
 /// An atomic step, and the actor that makes it.
 #[derive(Clone, Copy)]
@@ -199,13 +197,7 @@ fn push<N: EngineName, R: Wait + Abort>(
 
 fn assign(alloc: Global, number: usize) -> Result<Command, Refusal> {
     let number = i64::try_from(number).unwrap_or(i64::MAX);
-    Ok(Command::Assign(at_key(alloc)?, Val::Scalar(Scalar::Whole(number))))
-}
-
-/// The expression for the one key.
-fn at_key(alloc: Global) -> Result<Expr, Refusal> {
-    let step = Hop::Get(Key::new(alloc, "a")?);
-    Ok(Expr::new(vec![in alloc; step]?))
+    Ok(Command::Assign(at(alloc, "a")?, Val::Scalar(Scalar::Whole(number))))
 }
 
 /// Takes and handles the oldest submission of the queue, if there is one.
@@ -215,12 +207,12 @@ fn take<N: EngineName, R: Wait + Abort>(
     writer: &mut Writer<N>,
     counted: &mut Counted,
 ) -> Result<(), Fail> {
-    if !writer.held.is_empty() {
+    if writer.held_len() > 0 {
         return Err("what was taken isn't answered yet".into());
     }
     writer.take_all(rt, alloc);
     let waited = counted.taken < counted.pushed;
-    assert_eq!(rt; writer.held.len(), usize::from(waited));
+    assert_eq!(rt; writer.held_len(), usize::from(waited));
     counted.taken = counted.taken.saturating_add(usize::from(waited));
     Ok(())
 }
@@ -236,7 +228,7 @@ fn publish<N: EngineName, R: Wait>(
 }
 
 fn set<N: EngineName>(writer: &mut Writer<N>, counted: &mut Counted) -> Result<(), Fail> {
-    if !is_all_published(&writer.publisher, &writer.handler) {
+    if !writer.is_all_published() {
         return Err("what was taken isn't published yet".into());
     }
     writer.answer_all();
@@ -283,7 +275,7 @@ fn made_at<N: EngineName>(
 
 /// The number at the key, 0 if nothing was assigned.
 fn number<N: EngineName>(alloc: Global, reader: &mut ReaderToken<N>) -> Result<usize, Fail> {
-    let Reading::Values(values) = reader.ask(alloc, &Question::Values(at_key(alloc)?))? else {
+    let Reading::Values(values) = reader.ask(alloc, &Question::Values(at(alloc, "a")?))? else {
         return Err("no values".into());
     };
     match values.as_slice() {

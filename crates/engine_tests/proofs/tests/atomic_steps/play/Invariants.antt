@@ -1,5 +1,5 @@
 use Rattle.ids.specs.Members.{in_order}
-use Rattle.engine.proofs.writer.tests.play.Given as goal
+use Rattle.engine_tests.proofs.tests.atomic_steps.play.Given as goal
 
 -- the engine of these parts
 abbrev pub ghosts-play_in : goal.ghosts-play_in
