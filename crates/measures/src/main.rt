@@ -1,8 +1,7 @@
-//! Compares kernels with plain loops, rings with a vector, and operations with what is read back from their lines, and plays engines for a
-//! while. With the word `time` it also prints how long each takes.
+//! Compares kernels with plain loops, rings with a vector, and operations with what is read back from their lines. With the word `time` it
+//! also prints how long each takes.
 #![tactic(auto)]
 
-mod engines;
 mod inserts;
 mod kernels;
 mod lines;
@@ -19,8 +18,7 @@ fn main(rt: HostRuntime) -> io::Result<()> {
         inserts::report(&rt, rt.alloc())?;
         lines::report(&rt, rt.alloc())?;
     }
-    let played = engines::play(&rt, rt.alloc(), is_timed);
-    engines::report(&rt, played, is_timed)
+    Ok(())
 }
 
 /// Whether one of the words after the program's own name is `time`.
