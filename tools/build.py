@@ -1,163 +1,111 @@
 #!/usr/bin/env python3
-"""Proves the crates that the program uses, and builds it. `./jdoc build` calls it.
+"""build.py [library]: proves the crates that the program, or the library for C, stands on, and builds it. `./jdoc build` calls this.
 
-`rt` proves the crates of one checkout one after another. So two crates are proved at a time, each in its own copy of the sources, one of
-which is the checkout. Of the crates with everything below them proved, the one with the most above it is next. `rt` reuses in one copy
-what it has proved in the other.
+`rt ci` proves them, in a copy that has neither tests nor wrong edits. It keeps on this machine what it has proved, for the gate too; so
+where the gate has passed, a build takes a minute or two, and the gate needn't prove what a build has proved.
 """
-import os
+import re
 import shutil
 import subprocess
 import sys
 import tempfile
-import threading
 import time
 from pathlib import Path
 
 TOP = Path(__file__).resolve().parent.parent
-PROGRAM = "jdoc"
-# What two simultaneous proofs may take.
-BYTES_FOR_TWO = 8_000_000_000
-MOST_JOBS = 8
+# For each word of the command line: the crate, and what is built of it.
+GOALS = {"": ("jdoc", "jdoc"), "library": ("jdoc_c", "libjdoc_c.a")}
+PARTS = ("src", "specs", "proofs", "stdin", "stdout", "args", "status", "data")
 
 
 def say(text):
     print(f"./jdoc: {text}", file=sys.stderr, flush=True)
 
 
-def crates_of_the_program():
-    """Each crate that the program uses, directly or indirectly, lowest first, with those that it uses."""
-    listed = dict(it.split(":", 1) for it in (TOP / "crates.txt").read_text().splitlines() if it and not it.startswith("#"))
-    needed = {PROGRAM}
-    for name in reversed(listed):
+def crates_below(goal):
+    """The crates that this one uses, directly or indirectly, and itself, in the order of crates.txt, each with its line."""
+    lines = {it.split(":")[0].split()[0]: it for it in (TOP / "crates.txt").read_text().splitlines() if it.split("#")[0].strip()}
+    needed = {goal}
+    for name in reversed(lines):
         if name in needed:
-            needed.update(listed[name].split())
-    return {name: [it for it in uses.split() if it in listed] for name, uses in listed.items() if name in needed}
+            needed.update(lines[name].split(":")[1].split())
+    return {name: line for name, line in lines.items() if name in needed}
 
 
 def weight_of(name):
     """How much there is to prove: the bytes of code, definitions and proofs."""
-    files = (it for part in ("src", "specs", "proofs") for it in (TOP / "crates" / name / part).rglob("*.*"))
-    return sum(it.stat().st_size for it in files)
+    return sum(it.stat().st_size for part in ("src", "specs", "proofs") for it in (TOP / "crates" / name / part).rglob("*.*"))
 
 
 def copy_to(room, crates):
-    """A copy of the sources of these crates."""
-    listed = [it for it in (TOP / "crates.txt").read_text().splitlines() if it.split(":")[0] in crates]
-    (room / "crates.txt").write_text("\n".join(listed) + "\n")
+    """Copies the sources of these crates, without tests of their own crates and without wrong edits."""
+    (room / "crates.txt").write_text("".join(f"{line}\n" for line in crates.values()))
     shutil.copy(TOP / "HANDLES", room)
     for name in crates:
-        shutil.copytree(TOP / "crates" / name, room / "crates" / name, ignore=shutil.ignore_patterns("out"))
-    return room
+        for part in PARTS:
+            source, target = TOP / "crates" / name / part, room / "crates" / name / part
+            if source.is_dir():
+                shutil.copytree(source, target)
+            elif source.exists():
+                target.parent.mkdir(parents=True, exist_ok=True)
+                shutil.copy2(source, target)
 
 
-def free_memory():
-    for line in Path("/proc/meminfo").read_text().splitlines():
-        if line.startswith("MemAvailable:"):
-            return int(line.split()[1]) * 1024
-    return 0
+class Progress:
+    """What was proved so far, and how long it took."""
 
-
-class Build:
-    """The crates that are proved, those that are being proved, and those that wait."""
-
-    def __init__(self, crates, jobs):
-        self.crates, self.jobs = crates, jobs
-        self.weights = {name: weight_of(name) for name in crates}
-        # The weight of the heaviest chain from a crate up to the program.
-        self.above = {name: 0 for name in crates}
-        for name in reversed(crates):
-            for it in crates[name]:
-                self.above[it] = max(self.above[it], self.above[name] + self.weights[name])
-        self.waiting = list(crates)
-        self.running = {}
-        self.proved = []
-        self.failure = None
-        self.changed = threading.Condition()
-        self.start = time.monotonic()
+    def __init__(self, crates):
+        self.left = {name: weight_of(name) for name in crates}
+        self.done, self.start = 0, time.monotonic()
 
     def minutes(self):
-        return int(time.monotonic() - self.start) // 60
+        return (time.monotonic() - self.start) / 60
 
-    def minutes_left(self):
-        """Judging by what was proved so far, as if a crate took time in proportion to its size."""
-        done = sum(self.weights[it] for it in self.proved)
-        return round((time.monotonic() - self.start) / 60 * (sum(self.weights.values()) - done) / done)
-
-    def next_crate(self):
-        """Takes the next crate for a lane, and how many jobs its proof gets; None if there is none, or if one has failed."""
-        with self.changed:
-            while self.waiting and not self.failure:
-                ready = [it for it in self.waiting if all(use in self.proved for use in self.crates[it])]
-                if ready:
-                    name = max(ready, key=lambda it: self.above[it] + self.weights[it])
-                    self.waiting.remove(name)
-                    self.running[name] = None
-                    is_alone = len(ready) == 1 and len(self.running) == 1
-                    return name, self.jobs if is_alone else max(1, self.jobs // 2)
-                self.changed.wait()
-            return None
-
-    def has_ended(self, name, status, said):
-        with self.changed:
-            del self.running[name]
-            if status == 0:
-                self.proved.append(name)
-                if name != PROGRAM:
-                    left = len(self.crates) - len(self.proved)
-                    say(f"{name} is proved: {left} to go, about {self.minutes_left()} min ({self.minutes()} so far)")
-            elif not self.failure:
-                self.failure = name, said
-                for process in self.running.values():
-                    if process:
-                        process.terminate()
-            self.changed.notify_all()
-
-    def prove(self, top, name, jobs):
-        """Proves a crate in this copy of the sources; the program, which comes last, is built in the checkout, and plays its sample."""
-        folder = (TOP if name == PROGRAM else top) / "crates" / name
-        words = ["rt", "run", "--jobs", str(jobs), "--", "run"] if name == PROGRAM else ["rt", "lib", "--jobs", str(jobs)]
-        sample = folder / "stdin" if name == PROGRAM else os.devnull
-        try:
-            with open(sample) as given, tempfile.TemporaryFile("w+") as log:
-                process = subprocess.Popen(words, cwd=folder, stdin=given, stdout=log, stderr=log)
-                self.running[name] = process
-                status = process.wait()
-                log.seek(0)
-                said = log.read()
-        except OSError as error:
-            # The other lane must be told too, or it would wait for this crate forever.
-            status, said = 1, str(error)
-        self.has_ended(name, status, said)
-
-    def run_lane(self, top):
-        while following := self.next_crate():
-            self.prove(top, *following)
+    def has_proved(self, name):
+        """Says so, and how long the rest takes, as if a crate took time in proportion to its size."""
+        self.done += self.left.pop(name, 0)
+        if self.left and self.done:
+            rest = round(self.minutes() * sum(self.left.values()) / self.done)
+            say(f"{name} is proved: {len(self.left)} to go, about {rest} min ({self.minutes():.0f} so far)")
 
 
-def build():
-    crates = crates_of_the_program()
-    jobs = min(os.cpu_count() or 1, MOST_JOBS)
-    say(f"proving {len(crates)} crates with {jobs} jobs; from nothing, three quarters of an hour on four processors")
-    state = Build(crates, jobs)
-    with tempfile.TemporaryDirectory(prefix="jdoc-build-") as room:
-        tops = [TOP]
-        if jobs > 1 and free_memory() >= BYTES_FOR_TWO:
-            tops.append(copy_to(Path(room), crates))
-        lanes = [threading.Thread(target=state.run_lane, args=(it,)) for it in tops]
-        for lane in lanes:
-            lane.start()
-        for lane in lanes:
-            lane.join()
-    if state.failure:
-        name, said = state.failure
-        print("\n".join(said.splitlines()[-20:]), file=sys.stderr)
-        say(f"{name} isn't proved")
-        return 1
-    (TOP / "crates" / PROGRAM / "out" / PROGRAM).touch()
-    say(f"the program is proved and built after {state.minutes()} min")
+def prove(room, crates):
+    """Whether `rt ci` proves these crates in this copy. Shows the end of what it said if it doesn't."""
+    progress, said = Progress(crates), []
+    with subprocess.Popen(["rt", "ci"], cwd=room, stdin=subprocess.DEVNULL, stdout=subprocess.PIPE, stderr=subprocess.STDOUT,
+                          encoding="utf-8", errors="replace") as gate:
+        for line in gate.stdout:
+            said.append(line)
+            if found := re.match(r"rt: (\w+) proved", line):
+                progress.has_proved(found[1])
+    if gate.returncode:
+        # What failed, and not what was proved beside it.
+        told = [it for it in said if not re.match(r"fn \S+: proved|(struct|enum|impl) |statements ", it)]
+        print("".join(told[-20:]), end="", file=sys.stderr)
+    return gate.returncode == 0
+
+
+def build(word):
+    goal, made = GOALS[word]
+    crates = crates_below(goal)
+    say(f"proving {len(crates)} crates; from nothing, about half an hour on four processors")
+    start = time.monotonic()
+    with tempfile.TemporaryDirectory(prefix="jdoc-build-") as folder:
+        room = Path(folder)
+        copy_to(room, crates)
+        if not prove(room, crates):
+            say(f"{goal} isn't built: not all that it stands on is proved")
+            return 1
+        if word and subprocess.run([TOP / "tools/library", "--over", room], check=False).returncode:
+            return 1
+        target = TOP / "crates" / goal / "out" / made
+        target.parent.mkdir(exist_ok=True)
+        # Made beside it and renamed, so that nobody runs half of it.
+        shutil.copy(room / "crates" / goal / "out" / made, target.with_suffix(".new"))
+        target.with_suffix(".new").rename(target)
+    say(f"{target.relative_to(TOP)} is proved and built after {(time.monotonic() - start) / 60:.0f} min")
     return 0
 
 
 if __name__ == "__main__":
-    sys.exit(build())
+    sys.exit(build("".join(sys.argv[1:])))

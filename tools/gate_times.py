@@ -33,12 +33,12 @@ def words_of(pid):
 
 
 def kind_of(pid, words):
-    """What a check checks: the check of an edit runs in a folder of its own."""
+    """What a check checks: that of wrong edits runs in a folder of its own."""
     try:
         folder = os.readlink(f"/proc/{pid}/cwd")
     except OSError:
         folder = ""
-    if "rt-edit" in folder:
+    if "rt-edit" in folder or "wrong-edits" in folder:
         return "edits"
     return "tests" if "--test" in words else "proof"
 
