@@ -1,10 +1,12 @@
 -- What is reported of a fault, and the status with which it ends a run.
 use Rattle.std.specs.Prelude.{◌++◌, List, ℕ, codes, decimal}
+use Rattle.ids.specs.Refusals.{number_of}
 use Rattle.scripts.specs.Errors.{error_text}
+use Rattle.serving.specs.records.declared.replaying.Unfit.TheVariants as unfit
 use Rattle.scripts.specs.declared.error.ScriptError.TheVariants as script
 use Rattle.cli.specs.declared.fault.Fault.{Fault}
 use Rattle.cli.specs.declared.fault.Fault.TheVariants.{Script, CannotRead, BadWord, OutOfRange, CannotOpen, InUse, OtherNumber}
-use Rattle.cli.specs.declared.fault.Fault.TheVariants.{Damaged, Lost, NotWritten, NoMemory}
+use Rattle.cli.specs.declared.fault.Fault.TheVariants.{Damaged, Lost, Unsaved, NotWritten, NoMemory}
 use Rattle.cli.specs.declared.fault.Status.{Status}
 use Rattle.cli.specs.declared.fault.Status.TheVariants as status
 
@@ -18,10 +20,15 @@ status_of OutOfRange = status.BadInput
 status_of (CannotOpen name) = status.BadInput
 status_of (InUse name) = status.BadInput
 status_of (OtherNumber name number) = status.BadInput
-status_of (Damaged name line) = status.BadInput
+status_of (Damaged name line why) = status.BadInput
 status_of (Lost name) = status.NotWritten
+status_of (Unsaved name count) = status.NotWritten
 status_of NotWritten = status.NotWritten
 status_of NoMemory = status.NoMemory
+
+-- what is reported of a line of a file
+abbrev pub at_line : (name : List ℕ) → (line : ℕ) → List ℕ → List ℕ
+at_line name line why = codes "jdoc: line " ++ (decimal line ++ (codes " of " ++ (name ++ why)))
 
 -- what is reported of a fault, without the line feed
 abbrev pub fault_text : Fault → List ℕ
@@ -32,8 +39,13 @@ fault_text OutOfRange = codes "jdoc: a number is out of range"
 fault_text (CannotOpen name) = codes "jdoc: cannot open " ++ name.now
 fault_text (InUse name) = codes "jdoc: another program has " ++ name.now
 fault_text (OtherNumber name number) = codes "jdoc: number " ++ (decimal number ++ (codes " has " ++ name.now))
-fault_text (Damaged name line) = codes "jdoc: line " ++ (decimal line ++ (codes " of " ++ (name.now ++ codes " doesn't fit")))
+fault_text (Damaged name line (unfit.Refused why)) = at_line name.now line (codes " doesn't fit: E" ++ decimal (number_of why))
+fault_text (Damaged name line (unfit.OtherId id)) = at_line name.now line
+    (codes " doesn't fit: its command makes " ++ (decimal id.counter ++ (codes "@" ++ decimal id.replica)))
+fault_text (Damaged name line unfit.NotApplied) = at_line name.now line (codes " doesn't fit: it is known, or others are missing")
+fault_text (Damaged name line unfit.NotAlone) = at_line name.now line (codes " doesn't fit: another program writes")
 fault_text (Lost name) = codes "jdoc: nobody knows what " ++ (name.now ++ codes " has: start again")
+fault_text (Unsaved name count) = codes "jdoc: cannot write " ++ (name.now ++ (codes ": operations lost: " ++ decimal count))
 fault_text NotWritten = codes "jdoc: cannot write"
 fault_text NoMemory = codes "jdoc: no memory"
 

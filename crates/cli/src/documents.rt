@@ -4,8 +4,8 @@ use crate::fault::Fault;
 use ids::ReplicaId;
 use serving::{FileStore, Memory, NotServed, Stop, Store, serve as serve_desk, start};
 use std::alloc::Global;
-use std::fs::{File, Files};
-use std::io::{BufRead, ErrorKind, Write};
+use std::fs::{File, Files, OpenOptions};
+use std::io::{self, BufRead, ErrorKind, Write};
 use std::random::RandomSource;
 use std::sync::Wait;
 
@@ -31,6 +31,9 @@ pub fn serve<R: Files<File = File> + RandomSource + Wait, B: BufRead, O: Write, 
     }
 }
 
+/// The null device, whose name is the same on each system that has files.
+const NULL: &str = "/dev/null";
+
 /// Serves the document in a file that no other program has.
 fn serve_file<'a, R: Files<File = File> + RandomSource + Wait, B: BufRead, O: Write>(
     rt: &R,
@@ -40,6 +43,9 @@ fn serve_file<'a, R: Files<File = File> + RandomSource + Wait, B: BufRead, O: Wr
     input: &mut B,
     out: &mut O,
 ) -> Result<(), Fault<'a>> {
+    let Ok(_standard) = null_devices(rt) else {
+        return Err(Fault::CannotOpen(NULL));
+    };
     let Ok(store) = FileStore::open(rt, name) else {
         return Err(Fault::CannotOpen(name));
     };
@@ -48,6 +54,18 @@ fn serve_file<'a, R: Files<File = File> + RandomSource + Wait, B: BufRead, O: Wr
         Err(failed) if failed.kind == ErrorKind::WouldBlock => Err(Fault::InUse(name)),
         Err(_) => Err(Fault::CannotOpen(name)),
     }
+}
+
+/// The null device, three times. A program that was started with standard input, output or error closed gets their descriptors for these,
+/// and not for the file of a document, into which it would then print.
+fn null_devices<R: Files<File = File>>(rt: &R) -> io::Result<[File; 3]> {
+    let mut options = OpenOptions::new();
+    options.read(true).write(true);
+    Ok([
+        options.open(rt, NULL)?,
+        options.open(rt, NULL)?,
+        options.open(rt, NULL)?,
+    ])
 }
 
 /// Serves the document in a store, which is reported under this name.
@@ -82,7 +100,7 @@ fn fault_of(name: &str, why: NotServed) -> Fault<'_> {
         NotServed::NoMemory => Fault::NoMemory,
         NotServed::CannotOpen => Fault::CannotOpen(name),
         NotServed::OtherNumber(own) => Fault::OtherNumber(name, own.number()),
-        NotServed::Damaged(line) => Fault::Damaged(name, line),
+        NotServed::Damaged(line, why) => Fault::Damaged(name, line, why),
     }
 }
 
@@ -93,5 +111,6 @@ fn stop_of(name: &str, stop: Stop) -> Fault<'_> {
         Stop::Lost => Fault::Lost(name),
         Stop::NotRead => Fault::CannotRead("standard input"),
         Stop::NotWritten => Fault::NotWritten,
+        Stop::Unsaved(count) => Fault::Unsaved(name, count as u64),
     }
 }

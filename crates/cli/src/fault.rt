@@ -7,6 +7,7 @@ ghost use Rattle.cli.specs.Faults.{line_of, status_of};
 ghost use Rattle.cli.specs.declared.fault.Status.TheVariants.{NotWritten};
 
 use scripts::ScriptError;
+use serving::Unfit;
 use std::io::{ErrorKind, Write};
 use std::{fmt, io};
 use thiserror::Error;
@@ -43,10 +44,12 @@ pub enum Fault<'a> {
     InUse(&'a str),
     /// The file of this name is of another number: this one.
     OtherNumber(&'a str, u32),
-    /// A line of the file of this name, counted from 1, doesn't fit: the file was changed, or isn't a journal.
-    Damaged(&'a str, u64),
+    /// A line of the file of this name, counted from 1, doesn't fit, and why: the file was changed, or isn't a journal.
+    Damaged(&'a str, u64, Unfit),
     /// A sync of the file of this name failed, so it isn't known what it has.
     Lost(&'a str),
+    /// The input ended, and the file of this name lacks this many entries, which can't be saved.
+    Unsaved(&'a str, u64),
     /// A reply can't be written.
     NotWritten,
     NoMemory,
@@ -68,8 +71,34 @@ impl fmt::Display for Fault<'_> {
             Fault::CannotOpen(name) => write!(f, "jdoc: cannot open {name}"),
             Fault::InUse(name) => write!(f, "jdoc: another program has {name}"),
             Fault::OtherNumber(name, number) => write!(f, "jdoc: number {number} has {name}"),
-            Fault::Damaged(name, line) => write!(f, "jdoc: line {line} of {name} doesn't fit"),
+            Fault::Damaged(name, line, Unfit::Refused(why)) => {
+                let number = why.number();
+                write!(f, "jdoc: line {line} of {name} doesn't fit: E{number}")
+            }
+            Fault::Damaged(name, line, Unfit::OtherId(id)) => {
+                let (counter, replica) = (id.counter, id.replica.number());
+                write!(
+                    f,
+                    "jdoc: line {line} of {name} doesn't fit: its command makes {counter}@{replica}"
+                )
+            }
+            Fault::Damaged(name, line, Unfit::NotApplied) => {
+                write!(
+                    f,
+                    "jdoc: line {line} of {name} doesn't fit: it is known, or others are missing"
+                )
+            }
+            Fault::Damaged(name, line, Unfit::NotAlone) => {
+                write!(
+                    f,
+                    "jdoc: line {line} of {name} doesn't fit: another program writes"
+                )
+            }
             Fault::Lost(name) => write!(f, "jdoc: nobody knows what {name} has: start again"),
+            Fault::Unsaved(name, count) => write!(
+                f,
+                "jdoc: cannot write {name}: operations lost: {count}"
+            ),
             Fault::NotWritten => f.write_str("jdoc: cannot write"),
             Fault::NoMemory => f.write_str("jdoc: no memory"),
         }
@@ -108,7 +137,7 @@ impl<'a> Fault<'a> {
         match self {
             Fault::NoMemory => Status::NoMemory,
             Fault::Script(ScriptError::NoMemory) => Status::NoMemory,
-            Fault::Lost(_) | Fault::NotWritten => Status::NotWritten,
+            Fault::Lost(_) | Fault::Unsaved(_, _) | Fault::NotWritten => Status::NotWritten,
             _ => Status::BadInput,
         }
     }

@@ -102,10 +102,7 @@ impl<S: Store> Desk<S> {
             Call::Hello => Ok(Response::Hello(self.session.hello(alloc)?)),
             Call::Answer(hello) => self.answer_hello(alloc, hello.as_bytes()),
             Call::Receive(bundle) => Ok(self.receive(alloc, bundle.as_bytes())),
-            Call::Save => {
-                let length = self.session.len() as u64;
-                Ok(self.saved(alloc, Response::Saved(length)))
-            }
+            Call::Save => Ok(self.save_all(alloc)),
             Call::Status => Ok(self.status()),
         }
     }

@@ -18,5 +18,6 @@ pub use memory::Memory;
 pub use starting::{NotServed, start};
 pub use talk::{Stop, serve};
 
-// Re-exported from the crate below, for users of this one.
+// Re-exported from the crates below, for users of this one.
+pub use session::Unfit;
 pub use store::{FileStore, Store};

@@ -2,6 +2,7 @@
 
 use crate::desk::Desk;
 use ids::{Refusal, ReplicaId};
+use session::Unfit;
 use std::alloc::Global;
 use std::random::RandomSource;
 use store::{Fault, Journal, Store, draw_number};
@@ -14,8 +15,8 @@ pub enum NotServed {
     CannotOpen,
     /// Its own commands are of another number: this one.
     OtherNumber(ReplicaId),
-    /// A line, counted from 1, doesn't fit: the store was changed, or doesn't hold a journal.
-    Damaged(u64),
+    /// A line, counted from 1, doesn't fit, and why: the store was changed, or doesn't hold a journal.
+    Damaged(u64, Unfit),
 }
 
 /// A desk on a store, as the replica of this number if one is given, else of the number of the store's own commands, else of a random one.
@@ -76,7 +77,7 @@ fn drawn<R: RandomSource>(rt: &R) -> Result<ReplicaId, NotServed> {
 fn reason(fault: &Fault) -> NotServed {
     match fault {
         Fault::Refused(Refusal::NoMemory) | Fault::Held => NotServed::NoMemory,
-        Fault::Damaged { line, .. } => NotServed::Damaged(*line),
+        Fault::Damaged { line, why } => NotServed::Damaged(*line, *why),
         Fault::Refused(_) | Fault::Store(_) | Fault::MustStartAgain => NotServed::CannotOpen,
     }
 }

@@ -19,6 +19,8 @@ pub enum Stop {
     NotRead,
     /// A response can't be written.
     NotWritten,
+    /// The input ended, and this many entries still can't be saved.
+    Unsaved(usize),
 }
 
 impl From<AllocError> for Stop {
@@ -28,7 +30,7 @@ impl From<AllocError> for Stop {
 }
 
 /// Says that the document is ready, and then responds to each line of the input until it ends. A line is read only once the response to the
-/// one before was written. Waits for input.
+/// one before was written. Waits for input. At its end it tries once more to save what isn't saved.
 ///
 /// # Errors
 /// As `Stop` says. What earlier responses said still holds.
@@ -43,14 +45,26 @@ pub fn serve<S: Store, B: BufRead, W: Write>(
     let mut line = Vec::new(alloc);
     for _ in rt.forever() {
         let Some(response) = respond(alloc, desk, input, &mut line)? else {
-            break;
+            return finish(alloc, desk);
         };
         say(alloc, out, &response)?;
         if let Response::Lost = response {
             return Err(Stop::Lost);
         }
     }
-    Ok(())
+    unreachable!()
+}
+
+/// Saves what isn't saved when the input ends.
+fn finish<S: Store>(alloc: Global, desk: &mut Desk<S>) -> Result<(), Stop> {
+    if desk.unsaved() == 0 {
+        return Ok(());
+    }
+    match desk.save_all(alloc) {
+        Response::Saved(_) => Ok(()),
+        Response::Lost => Err(Stop::Lost),
+        _ => Err(Stop::Unsaved(desk.unsaved())),
+    }
 }
 
 /// The response to the next line of the input, or `None` at its end. A line that is too long or cut off isn't a call.

@@ -101,7 +101,12 @@ pub fn whole_len(bytes: &[u8]) -> usize
     }
 }
 
-/// Whether this is the beginning of a line of a journal. A file that ends in something else isn't a journal.
+/// Whether this is what a loss of power may leave of a line that was being written: its beginning, and zeros for what wasn't written, as
+/// file systems leave them. A file that ends in something else isn't a journal.
 pub fn is_begun(rest: &[u8]) -> bool {
-    rest.starts_with(START) || START.starts_with(rest)
+    let written = match rest.iter().rposition(|byte| *byte != 0) {
+        Some(last) => &rest[..last + 1],
+        None => &[],
+    };
+    written.starts_with(START) || START.starts_with(written)
 }

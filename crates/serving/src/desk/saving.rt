@@ -1,6 +1,7 @@
 //! Saving to the shelf.
 
-ghost use Rattle.std.specs.Prelude.{◌≡◌, ◌≢◌, ◌⊎◌, false, true, IfErr, OnOk};
+ghost use Rattle.std.specs.Prelude.{◌≡◌, ◌≢◌, ◌⊎◌, ◌-◌, false, true, length, IfErr, OnOk};
+ghost use Rattle.calls.specs.declared.response.Response.TheVariants as said;
 ghost use Rattle.store.specs.declared.fault.Fault.TheVariants.{MustStartAgain};
 ghost use Rattle.serving.specs.Desks.{IsSaved, SaysSaved};
 
@@ -42,6 +43,21 @@ impl<S: Store> Desk<S> {
         self.shelf.put(&lines)?;
         self.stored = self.session.len();
         Ok(())
+    }
+
+    /// How many entries aren't on the shelf.
+    pub fn unsaved(&self) -> usize
+        ensures { result ≡ length self.now.replica.entries - self.now.stored }
+    {
+        self.session.len().saturating_sub(self.stored)
+    }
+
+    /// Saves what isn't saved yet. The response says that it is done, or that it isn't.
+    pub fn save_all(&mut self, alloc: Global) -> Response
+        ensures { SaysSaved (said.Saved (length self.old.replica.entries)) self.old result self.new }
+    {
+        let length = self.session.len() as u64;
+        self.saved(alloc, Response::Saved(length))
     }
 
     /// The store, as it is. What isn't saved is lost.
