@@ -24,7 +24,9 @@ NAMES_WITH_CRATES = re.compile(r"((?:`\w+`(?:, )?)+) \(((?:`\w+`(?:, )?)+)\)")
 # The head of a function, with its contract.
 HEAD = re.compile(r'^( *)(?:pub(?:\(\w+\))? )?(?:const )?(?:extern "C" )?fn (\w+)(.*?)^\1(?:\{|\}|[^\n]*;$)', re.MULTILINE | re.DOTALL)
 # What looks like a definition or a clause but isn't one.
-FILE_ENDINGS = {"md", "antt", "rt", "py", "txt", "sh"}
+FILE_ENDINGS = {"md", "antt", "rt", "py", "txt", "sh", "session", "serve", "bad"}
+# Crates whose tests are in tests/scripts too, where a group is named by a line `# NAME: TEXT`.
+PLAYED = {"calls", "cli", "scripts", "serving", "world"}
 # Names that aren't words of this repository, by page: of the toolchain, of the system, and of what doesn't exist or no longer exists.
 ELSEWHERE = {
     "DECISIONS": {"IsAllowed", "Vec::insert", "arrayvec::ArrayString", "dyn"},
@@ -66,7 +68,8 @@ def clauses():
 def words():
     """Each word of a source, script or edit, and the name of each."""
     parts = [f"crates/*/{part}/**/*.*" for part in ("src", "specs", "proofs", "must-fail", "wrong")]
-    patterns = [*parts, "clients/**/*.py", "examples/**/*.py", "tests/*", "tools/*", "bench/*", ".ci/*", "jdoc", "crates.txt"]
+    patterns = [*parts, "clients/**/*.py", "examples/**/*.py", "tests/*", "tests/scripts/*"]
+    patterns += ["tools/*", "bench/*", ".ci/*", "jdoc", "crates.txt"]
     names = {it.stem for pattern in [*parts, "crates/*", "tests/scripts/*"] for it in TOP.glob(pattern)}
     found = set(re.findall(r"[\w-]+", text_of(*patterns)))
     return names.union(found, *(it.split("-") for it in found))
@@ -130,12 +133,12 @@ def missing_clauses(contracts):
 
 
 def files_of(crate):
-    """The files of a crate and of its tests, whether these are a crate of their own or in another crate of tests; and the sessions, for
-    `scripts`, which plays them."""
+    """The files of a crate and of its tests, whether these are a crate of their own or in another crate of tests; and those that the
+    program plays, for the crates that these test."""
     parts = f"*_tests/src/tests/of_{crate}"
     patterns = [f"{crate}/src/**/*.rt", f"{crate}_tests/src/**/*.rt", f"{parts}.rt", f"{parts}/**/*.rt"]
-    sessions = sorted(TOP.glob("tests/scripts/*.session")) if crate == "scripts" else []
-    return [it for pattern in patterns for it in sorted((TOP / "crates").glob(pattern))] + sessions
+    played = sorted(TOP.glob("tests/scripts/*")) if crate in PLAYED else []
+    return [it for pattern in patterns for it in sorted((TOP / "crates").glob(pattern))] + played
 
 
 def missing_of(text, kind, has):
@@ -148,9 +151,10 @@ def missing_of(text, kind, has):
 
 
 def has_test(crate, name):
-    """Whether the crate or its tests have a test, or a file of tests, of this name."""
+    """Whether the crate or its tests have a test, a file of tests, or a group of such a file, of this name."""
     files = files_of(crate)
-    return name in {it.stem for it in files} or any(has_function(it.read_text(encoding="utf-8"), name) for it in files)
+    is_there = re.compile(rf"\bfn {name}\b|^# {name}: ", re.MULTILINE)
+    return name in {it.stem for it in files} or any(is_there.search(it.read_text(encoding="utf-8")) for it in files)
 
 
 def has_edit(crate, name):

@@ -1,6 +1,5 @@
 //! Lines of the protocol with the calls that they make, and responses with their lines.
 
-mod faults;
 mod reading;
 mod refused_memory;
 mod responses;

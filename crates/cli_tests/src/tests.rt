@@ -2,6 +2,5 @@
 
 mod benches;
 mod of_bench;
-mod runs;
 mod streams;
 mod words;

@@ -1,13 +1,4 @@
-//! Scripts with their replies or their first bad lines, and what no contract says of them.
+//! What no script of `tests/scripts` can say: replies that no script reaches, and what a caller of the crate is told.
 
-mod bad_requests;
-mod bad_scripts;
-mod bad_steps;
-mod configurations;
-mod engines;
-mod glances;
-mod good_scripts;
-mod limits;
-mod playing;
-mod readings;
 mod replies;
+mod running;

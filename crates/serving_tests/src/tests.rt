@@ -2,7 +2,6 @@
 
 mod failing;
 mod lines;
-mod talks;
 
 use disks::{Breaks, Disk};
 use ids::{Refusal, ReplicaId};

@@ -1,108 +1,27 @@
-//! How a world is opened, counts its steps, and is poisoned by a failed allocation.
+//! How a world counts its steps, and is poisoned by a failed allocation.
 
 use super::*;
+use std::process::Abort;
 
-/// The numbers from 1 to 65.
-const NUMBERS: [u32; 65] = [
-    1, 2, 3, 4, 5, 6, 7, 8, 9, 10, 11, 12, 13, 14, 15, 16, 17, 18, 19, 20, 21, 22, 23, 24, 25, 26,
-    27, 28, 29, 30, 31, 32, 33, 34, 35, 36, 37, 38, 39, 40, 41, 42, 43, 44, 45, 46, 47, 48, 49, 50,
-    51, 52, 53, 54, 55, 56, 57, 58, 59, 60, 61, 62, 63, 64, 65,
-];
-
-/// What is within the limits.
-const GOOD: &[Opening] = &[
-    (1, &[1], (1, 1, 1, 1, 1)),
-    (1, &[1], (64, 64, 65_536, 256, 4_294_967_295)),
-    (4_294_967_295, &[4_294_967_295], (1, 1, 1, 1, 1)),
-];
-
-/// What is not.
-const BAD: &[Opening] = &[
-    (2, &[1], (1, 1, 1, 1, 1)),
-    (1, &[], (1, 1, 1, 1, 1)),
-    (1, &[1, 2, 1], (1, 1, 1, 1, 1)),
-    (1, &[1, 0], (1, 1, 1, 1, 1)),
-    (0, &[1, 0], (1, 1, 1, 1, 1)),
-    (1, &[1], (0, 1, 1, 1, 1)),
-    (1, &[1], (65, 1, 1, 1, 1)),
-    (1, &[1], (1, 0, 1, 1, 1)),
-    (1, &[1], (1, 65, 1, 1, 1)),
-    (1, &[1], (1, 1, 0, 1, 1)),
-    (1, &[1], (1, 1, 65_537, 1, 1)),
-    (1, &[1], (1, 1, 1, 0, 1)),
-    (1, &[1], (1, 1, 1, 257, 1)),
-    (1, &[1], (1, 1, 1, 1, 0)),
-];
-
-/// Opens a world of a good engine and one of this configuration.
-fn open_with(alloc: Global, opening: Opening) -> Result<World, Refusal> {
-    engines(alloc, (1, &[1], (1, 1, 1, 1, 1)), opening)
-}
-
-/// Asserts why such a world is refused, or that it opens.
-fn opens(rt: &impl Abort, alloc: Global, opening: Opening, want: Option<Refusal>) {
-    let (own, members, sizes) = opening;
-    assert_eq!(rt;
-        open_with(alloc, opening).err(),
-        want,
-        "own number {own} of {members:?}, {sizes:?}"
-    );
-}
+/// The number of an engine, what it does in one run, and how many steps were done after that.
+type Run<'a> = (usize, &'a [Act<'a>], u64);
 
 #[test]
-fn worlds_open_within_the_limits(rt: HostRuntime) {
-    for opening in GOOD {
-        opens(&rt, rt.alloc(), *opening, None);
-    }
-    for opening in BAD {
-        opens(&rt, rt.alloc(), *opening, Some(Refusal::BadConfig));
-    }
-}
-
-#[test]
-fn up_to_64_replicas_are_members(rt: HostRuntime) {
-    let sizes = (1, 1, 1, 1, 1);
-    opens(&rt, rt.alloc(), (64, &NUMBERS[..64], sizes), None);
-    let bad = Some(Refusal::BadConfig);
-    opens(&rt, rt.alloc(), (64, &NUMBERS, sizes), bad);
-}
-
-#[test]
-fn no_engine_is_idle(rt: HostRuntime) -> Result<(), Fail> {
-    const ROWS: &[Row] = &[
-        (Push(0, "a", 1), "Idle"),
-        (Step, "Idle"),
-        (Ask(0, "a"), "Idle"),
-    ];
-    let mut none = World::new(rt.alloc(), &[])?;
-    replies(&rt, rt.alloc(), &mut none, 0, ROWS)
-}
-
-/// The number of an engine, what it does in one run and its replies, and how many steps were done after that.
-type Run<'a> = (usize, &'a [Row<'a>], u64);
-
-#[test]
-fn steps_are_counted_over_all_runs(rt: HostRuntime) -> Result<(), Fail> {
+fn steps_are_counted_over_all_runs(rt: HostRuntime) {
     const RUNS: &[Run] = &[
-        (
-            0,
-            &[
-                (Push(0, "a", 1), "Ticket(1)"),
-                (Step, "Published(1)"),
-                (Step, "Idle"),
-            ],
-            3,
-        ),
+        (0, &[Act::Push(0, "a", 1), Act::Step, Act::Step], 3),
         (0, &[], 3),
-        (5, &[(Step, "Idle")], 4),
+        (5, &[Act::Step], 4),
     ];
-    let mut world = world_of_one(rt.alloc(), &[1], (1, 1, 8, 8, 8))?;
+    let config = config(rt.alloc(), 1, &[1], 1).expect(&rt, "memory");
+    let mut world = World::new(rt.alloc(), &[config]).expect(&rt, "a world");
     assert_eq!(rt; world.steps_done(), 0);
-    for (engine, rows, done) in RUNS {
-        replies(&rt, rt.alloc(), &mut world, *engine, rows)?;
+    for (engine, acts, done) in RUNS {
+        let steps = steps(rt.alloc(), *engine, acts).expect(&rt, "memory");
+        let replies = world.run(rt.alloc(), &steps).expect(&rt, "memory");
+        assert_eq!(rt; replies.len(), acts.len());
         assert_eq!(rt; world.steps_done(), *done);
     }
-    Ok(())
 }
 
 /// How many steps a world was given, how many it has done, and whether a run was refused.
@@ -156,14 +75,30 @@ fn go_on(
 
 /// Twelve steps, in three runs.
 const SESSION: &[&[Act]] = &[
-    &[Push(0, "a", 1), Push(1, "b", 2), Step, Poll(0, 1)],
-    &[Push(0, "a", 3), Ask(2, "a"), Step, Poll(1, 1)],
-    &[Ask(0, "a"), Push(1, "c", 4), Step, Poll(1, 2)],
+    &[
+        Act::Push(0, "a", 1),
+        Act::Push(1, "b", 2),
+        Act::Step,
+        Act::Poll(0, 1),
+    ],
+    &[
+        Act::Push(0, "a", 3),
+        Act::Ask(2, "a"),
+        Act::Step,
+        Act::Poll(1, 1),
+    ],
+    &[
+        Act::Ask(0, "a"),
+        Act::Push(1, "c", 4),
+        Act::Step,
+        Act::Poll(1, 2),
+    ],
 ];
 
 /// Does the session.
 fn play(rt: &impl Abort, alloc: Global) -> Result<(), Refusal> {
-    let mut world = world_of_one(alloc, &[1, 2], (2, 1, 8, 8, 8))?;
+    let config = config(alloc, 1, &[1, 2], 2)?;
+    let mut world = World::new(alloc, &[config])?;
     let mut progress = Progress {
         given: 0,
         done: 0,
