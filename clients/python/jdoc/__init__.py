@@ -4,9 +4,9 @@
 All that a document does is done there; this package turns calls into requests, and refusals into exceptions.
 """
 from .document import Answer, BadLine, Document, ItemId, Path, Receipt, Scalar, Status, Step, Value
-from .errors import REFUSALS, Died, JdocError, Lost, Refused, Unsaved
+from .errors import REFUSALS, Died, JdocError, Lost, OtherProcess, Refused, Unsaved
 
 __all__ = [
-    "Answer", "BadLine", "Died", "Document", "ItemId", "JdocError", "Lost", "Path", "REFUSALS", "Receipt", "Refused", "Scalar", "Status",
-    "Step", "Unsaved", "Value",
+    "Answer", "BadLine", "Died", "Document", "ItemId", "JdocError", "Lost", "OtherProcess", "Path", "REFUSALS", "Receipt", "Refused",
+    "Scalar", "Status", "Step", "Unsaved", "Value",
 ]

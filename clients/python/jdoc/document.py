@@ -8,7 +8,7 @@ import threading
 from typing import Any, List, Mapping, NamedTuple, Optional, Sequence, Tuple, Union
 
 from .child import Child
-from .errors import Died, Lost, Refused, Unsaved
+from .errors import Died, Lost, OtherProcess, Refused, Unsaved
 from .library import Library
 
 
@@ -77,12 +77,17 @@ class Document:
     request gets its reply before the next one is sent. What the engine refuses is raised as `Refused`. Any call may raise `Died`, and one
     that writes or receives may raise `Unsaved` and `Lost`; with the library `answer` may too, while something isn't saved.
 
+    If a signal handler raises an exception, such as `KeyboardInterrupt`, during a call, it isn't known whether what was asked for is done;
+    the document goes on. A document belongs to the process that opened it: in a process that was forked from that, each call raises
+    `OtherProcess`, and `close` does nothing. A document that nothing refers to any more is closed.
+
     A position is counted when the call is handled. To be sure of the item that was seen, use its id, from `items` or from `insert`.
     """
 
     def __init__(self, child: Union[Child, Library]) -> None:
         """For a program that was started, or the library; `open` calls this."""
         self._child = child
+        self._process = os.getpid()
         self._lock = threading.RLock()
         self._is_closed = False
         self.number: int = self._reply("ready", b"")[1]
@@ -119,6 +124,8 @@ class Document:
 
     def close(self) -> None:
         """Ends the program. What it couldn't save, as `Unsaved` said, is lost."""
+        if self._process != os.getpid():
+            return
         with self._lock:
             if not self._is_closed:
                 self._is_closed = True
@@ -149,7 +156,7 @@ class Document:
 
     def append(self, path: Path, value: Value) -> ItemId:
         """Inserts an item at the end of the list at the path, and returns its id. It asks for all ids of the list."""
-        with self._lock:
+        with self._turn():
             before: List[object] = [*self.items(path)[-1:]] or [0]
             return self._write_checked("insert", _expression(path) + before, value)
 
@@ -159,7 +166,7 @@ class Document:
 
     def _write_checked(self, command: str, place: List[object], value: Value) -> ItemId:
         _check(value)
-        with self._lock:
+        with self._turn():
             return self._write(command, place, value)
 
     def _write(self, command: str, place: List[object], value: Value) -> ItemId:
@@ -263,6 +270,12 @@ class Document:
         """True, even if there is no operation yet."""
         return True
 
+    def _turn(self) -> threading.RLock:
+        """What a thread holds while it asks. Raises `OtherProcess` in another process, where a thread that is gone may hold it for ever."""
+        if self._process != (here := os.getpid()):
+            raise OtherProcess(self._process, here)
+        return self._lock
+
     def _ask(self, word: str, *request: object) -> List[Any]:
         line = _line(request)
         if len(line) > MOST_BYTES:
@@ -271,7 +284,7 @@ class Document:
 
     def _reply(self, word: str, line: bytes) -> List[Any]:
         """The program's reply to this line. A reply that doesn't begin with the word is raised as an exception."""
-        with self._lock:
+        with self._turn():
             if self._is_closed:
                 raise ValueError("the document is closed")
             said = self._child.ask(line)

@@ -72,3 +72,15 @@ class Lost(JdocError):
 class Died(JdocError):
     """The program, or the document in the library, couldn't be started, or it ended; the message says why, with what the program said on
     standard error. It isn't known whether a request that was under way was done. What was called saved before is saved."""
+
+
+class OtherProcess(JdocError):
+    """The document was opened in another process. After a fork the document stays with the process that opened it: open another one, with a
+    file and a number of its own, and exchange, or let that process do the writing."""
+
+    def __init__(self, opened: int, used: int) -> None:
+        super().__init__(opened, used)
+        self.opened, self.used = opened, used
+
+    def __str__(self) -> str:
+        return f"the document belongs to process {self.opened}, which opened it, and this is process {self.used}"
