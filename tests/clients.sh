@@ -53,7 +53,8 @@ done
 if [ $# = 0 ]; then
     "$top/clients/python/build_library" "$room/libjdoc.so"
     JDOC_LIBRARY=$room/libjdoc.so tested 'the package over the library' \
-        test_document test_exchange test_refusals test_scripts test_process.Files test_process.Threads test_library
+        test_document test_exchange test_forks.Uses test_refusals test_scripts test_process.Files test_process.Threads \
+        test_library test_values
 fi
 echo "clients: $passed tests passed, $failed runs failed"
 [ "$failed" = 0 ]

@@ -1,6 +1,8 @@
 """What can go wrong: every exception of this package is a `JdocError`."""
 from __future__ import annotations
 
+from typing import Tuple, Union
+
 # Each refusal of the engine: its name, and when it occurs, in the words of docs/RULES.md, 'Refusals', which also says what to do then.
 REFUSALS = {
     "E1": ("NoMemory", "an allocation failed"),
@@ -41,20 +43,24 @@ class JdocError(Exception):
 
 
 class Refused(JdocError):
-    """The engine refused a request, and nothing has changed. `code` is the refusal's number, such as `"E3"`."""
+    """A request was refused, and nothing has changed. `code` is the refusal's number, such as `"E3"`. If it concerns a part of a dict or a
+    list that was to be written, `part` is the way to it by keys and positions, such as `("body", 0)`; else it is empty.
 
-    def __init__(self, code: str) -> None:
-        super().__init__(code)
-        self.code = code
+    Only a full history (E8) or a failed allocation (E1) can refuse such a part after others were written; those stay.
+    """
+
+    def __init__(self, code: str, part: Tuple[Union[str, int], ...] = ()) -> None:
+        super().__init__(code, part)
+        self.code, self.part = code, part
         self.name, self.meaning = REFUSALS.get(code, ("Unknown", "a refusal that this package doesn't know"))
 
     def __str__(self) -> str:
-        return f"{self.code} {self.name}: {self.meaning}"
+        return f"{self.code} {self.name}: {self.meaning}" + (f", in the value at {list(self.part)!r}" if self.part else "")
 
 
 class Unsaved(JdocError):
     """What was asked for is in the document, but only `saved` of its `length` operations are in the file. Don't write it again:
-    `save`, or the next write, saves it too."""
+    `save`, or the next write, saves it too. Of a dict or a list the document then has what was written until here, as `get` shows."""
 
     def __init__(self, length: int, saved: int) -> None:
         super().__init__(length, saved)

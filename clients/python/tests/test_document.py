@@ -57,7 +57,7 @@ class Values(Case):
     def test_a_request_that_is_too_long_is_not_sent(self) -> None:
         document = self.open(number=1)
         with self.assertRaisesRegex(ValueError, "33554432"):
-            document.set("k", "x" * 33_554_432)
+            document.get("x" * 33_554_432)
         with self.assertRaisesRegex(ValueError, "33554432"):
             document.receive(b"x" * 33_554_432)
         document.set("k", 1)
