@@ -4,10 +4,12 @@
 All that a document does is done there; this package turns calls into requests, and refusals into exceptions.
 """
 from .document import Answer, BadLine, Document, Receipt, Status
-from .errors import REFUSALS, Died, JdocError, Lost, OtherProcess, Refused, Unsaved
+from .errors import (
+    REFUSALS, Damaged, Died, JdocError, Locked, Lost, NoProgram, NotFound, OtherProcess, Refused, Unsaved, WrongNumber
+)
 from .values import ItemId, Path, Scalar, Step, Value
 
 __all__ = [
-    "Answer", "BadLine", "Died", "Document", "ItemId", "JdocError", "Lost", "OtherProcess", "Path", "REFUSALS", "Receipt", "Refused",
-    "Scalar", "Status", "Step", "Unsaved", "Value",
+    "Answer", "BadLine", "Damaged", "Died", "Document", "ItemId", "JdocError", "Locked", "Lost", "NoProgram", "NotFound",
+    "OtherProcess", "Path", "REFUSALS", "Receipt", "Refused", "Scalar", "Status", "Step", "Unsaved", "Value", "WrongNumber",
 ]

@@ -6,9 +6,10 @@ import subprocess
 import tempfile
 import weakref
 from contextlib import suppress
-from typing import IO, Any, Callable, List, Optional, Sequence
+from typing import IO, Any, Callable, List, Optional, Sequence, Tuple
 
-from .errors import Died
+from .errors import Died, NoProgram
+from .openings import fault_of
 
 # How many seconds a program may take to end once its input has ended.
 PATIENCE = 30.0
@@ -53,7 +54,7 @@ class Child:
             )
         except OSError as fault:
             self._said.close()
-            raise Died(f"can't start {self._name}: {fault}") from fault
+            raise NoProgram(f"can't start {self._name}: {fault}") from fault
         assert self._process.stdin and self._process.stdout
         self._input, self._output = self._process.stdin, self._process.stdout
         self._finalizer = weakref.finalize(self, _stop, self._process, self._said)
@@ -80,27 +81,36 @@ class Child:
                 _note(request.reply, self._output.read, PIECE)
         # Another `OSError` is none of the program's: a handler may raise `TimeoutError`.
         except BrokenPipeError:
-            raise Died(self.end()) from None
+            raise self._found_dead() from None
         reply = b"".join(request.reply)
         if not request.reply[-1]:
-            raise Died(self.end())
+            raise self._found_dead()
         if reply.index(b"\n") + 1 < len(reply):
             raise Died(self.end(f"said {reply[:200]!r}, which is more than a line"))
         return reply
 
-    def end(self, why: str = "") -> str:
-        """Stops the program, and returns why: this reason, or its status and what it said."""
+    def end(self, why: str) -> str:
+        """Stops the program for this reason, and returns what there is to say: the reason, and what the program said."""
+        self._process.kill()
+        return self._ended_so(why)[0]
+
+    def _found_dead(self) -> Died:
+        """Why a program ended by itself."""
         # In case that an exception comes while it ends.
-        self._end = f"{self._name} {why or 'ended'}"
-        if why:
-            self._process.kill()
+        self._end = f"{self._name} ended"
         status = _ended(self._process)
+        return fault_of(*self._ended_so(f"ended with status {status}" if status >= 0 else f"ended by signal {-status}"), status)
+
+    def _ended_so(self, how: str) -> Tuple[str, str]:
+        """Ends it, and returns what there is to say of that, and what the program said."""
+        self._end = f"{self._name} {how}"
+        _ended(self._process)
         self._said.seek(0)
         said = self._said.read()[-10_000:].decode(errors="replace").strip()
-        how = why or (f"ended with status {status}" if status >= 0 else f"ended by signal {-status}")
-        self._end = f"{self._name} {how}" + (f": {said}" if said else "")
+        if said:
+            self._end = f"{self._name} {how}: {said}"
         self.close()
-        return self._end
+        return self._end, said
 
     def close(self) -> None:
         """Makes the program end, and waits for that."""

@@ -1,7 +1,7 @@
 """What can go wrong: every exception of this package is a `JdocError`."""
 from __future__ import annotations
 
-from typing import Tuple, Union
+from typing import Optional, Tuple, Union
 
 # Each refusal of the engine: its name, and when it occurs, in the words of docs/RULES.md, 'Refusals', which also says what to do then.
 REFUSALS = {
@@ -78,6 +78,49 @@ class Lost(JdocError):
 class Died(JdocError):
     """The program, or the document in the library, couldn't be started, or it ended; the message says why, with what the program said on
     standard error. It isn't known whether a request that was under way was done. What was called saved before is saved."""
+
+
+class NoProgram(Died):
+    """There is no such program or library, or it can't be started."""
+
+
+class NotFound(Died):
+    """There is no folder for the file."""
+
+
+class Locked(Died):
+    """Another program has the file, or another document of this process. `holder` is the process that has it, where the system tells."""
+
+    def __init__(self, text: str, holder: Optional[int] = None) -> None:
+        super().__init__(text, holder)
+        self.text, self.holder = text, holder
+
+    def __str__(self) -> str:
+        return self.text
+
+
+class WrongNumber(Died):
+    """The file is of another device: `number` is that device's, if it is known."""
+
+    def __init__(self, text: str, number: Optional[int] = None) -> None:
+        super().__init__(text, number)
+        self.text, self.number = text, number
+
+    def __str__(self) -> str:
+        return self.text
+
+
+class Damaged(Died):
+    """A line of the file isn't one that a document writes there: the file was changed, or it isn't a document. The file stays as it was.
+    `line` counts from 1, and `reason` is the refusal's number, such as `"E22"`, if it is known."""
+
+    def __init__(self, text: str, line: int, reason: Optional[str] = None) -> None:
+        super().__init__(text, line, reason)
+        self.text, self.line, self.reason = text, line, reason
+
+    def __str__(self) -> str:
+        name, meaning = REFUSALS.get(self.reason or "", ("", ""))
+        return f"{self.text} ({name}: {meaning})" if name else self.text
 
 
 class OtherProcess(JdocError):
