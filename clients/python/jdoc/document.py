@@ -52,8 +52,10 @@ MOST_ELEMENTS = 1_048_576 * (MOST_DEPTH + 1)
 # The most bytes of a request, with its line feed, and the greatest number of a device.
 MOST_BYTES = 33_554_432
 MOST_NUMBER = 4_294_967_295
-# Where `build_library` puts the library.
-BUILT = os.path.join(os.path.dirname(os.path.abspath(__file__)), "libjdoc.so")
+# Where `build_library` puts the library, and where the repository is if this package lies in it.
+HERE = os.path.dirname(os.path.abspath(__file__))
+BUILT = os.path.join(HERE, "libjdoc.so")
+TOP = os.path.dirname(os.path.dirname(os.path.dirname(HERE)))
 
 
 class Document:
@@ -88,7 +90,8 @@ class Document:
 
         `program` is the path of the program that keeps the document, or its words; `library` is the shared object that keeps it in this
         process. If neither is given, the environment's `JDOC_LIBRARY` is the library's path, or else its `JDOC` is the program's; or else
-        it is the library that `build_library` made, or else `jdoc` on the PATH.
+        it is the library that `build_library` made, or the launcher of the repository that this package lies in (whose first start
+        compiles the program, in a minute or two), or else `jdoc` on the PATH.
         """
         if number is None and not (path is not None and _knows_number(path)):
             number = 1 + secrets.randbelow(MOST_NUMBER)
@@ -97,7 +100,7 @@ class Document:
                 raise ValueError(f"a device's number is from 1 to {MOST_NUMBER}: {number}")
         if library := library or (None if program else _library()):
             return cls(Library(os.fspath(library), None if path is None else os.path.abspath(path), number))
-        program = program or os.environ.get("JDOC") or "jdoc"
+        program = program or os.environ.get("JDOC") or _launcher() or "jdoc"
         words = [os.fspath(program)] if isinstance(program, (str, os.PathLike)) else [*program]
         words.append("serve")
         if path is not None:
@@ -306,6 +309,12 @@ def _library() -> Optional[str]:
     if library := os.environ.get("JDOC_LIBRARY"):
         return library
     return BUILT if not os.environ.get("JDOC") and os.path.exists(BUILT) else None
+
+
+def _launcher() -> Optional[str]:
+    """The path of the repository's launcher, if this package lies in a repository."""
+    launcher = os.path.join(TOP, "jdoc")
+    return launcher if os.path.exists(os.path.join(TOP, "crates.txt")) and os.access(launcher, os.X_OK) else None
 
 
 def _knows_number(path: Union[str, os.PathLike[str]]) -> bool:

@@ -171,7 +171,7 @@ class Conflicts(Case):
 
 class Pages(Case):
     def test_their_code_runs(self) -> None:
-        for page in ("clients/python/README.md", "README.md", "docs/EMBEDDING.md"):
+        for page in ("clients/python/README.md", "docs/EMBEDDING.md"):
             text = (TOP / page).read_text(encoding="utf-8")
             code = text.split("```python\n")[1].split("```")[0]
             # A file that the code opens is in the test's folder.
