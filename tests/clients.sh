@@ -1,6 +1,6 @@
 #!/usr/bin/env bash
-# clients.sh [PROGRAM]: runs the tests of the Python package and of the application in it with the proved program, or with another one.
-# Then, unless another one is given, those of the package that don't concern a program, with the library for C. Says how many tests there
+# clients.sh [PROGRAM]: runs the tests of the Python package and of the application in it with the proved program, or with another one, and
+# pastes README's box into a shell. Then, unless another one is given, those of the package that don't concern a program, with the library for C. Says how many tests there
 # are, and fails if any does.
 set -euo pipefail
 top=$(cd "$(dirname "$0")/.." && pwd)
@@ -50,10 +50,16 @@ tested() {
 for folder in clients/python/tests examples/notes; do
     tested "$folder" discover -s "$top/$folder"
 done
+if "$top/tests/readme.sh" "$program"; then
+    passed=$((passed + 1))
+else
+    failed=$((failed + 1))
+fi
 if [ $# = 0 ]; then
     "$top/clients/python/build_library" "$room/libjdoc.so"
     JDOC_LIBRARY=$room/libjdoc.so tested 'the package over the library' \
-        test_document test_exchange test_refusals test_scripts test_process.Files test_process.Threads test_library
+        test_document test_exchange test_forks.Uses test_refusals test_scripts test_process.Files test_process.Threads \
+        test_library test_values
 fi
 echo "clients: $passed tests passed, $failed runs failed"
 [ "$failed" = 0 ]

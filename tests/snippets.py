@@ -2,7 +2,7 @@
 """Tests that the code in README.md and docs/EMBEDDING.md is code that the gate builds: the line before a block of Rattle, Rust or C, or
 before one that begins with `py`, names the file that it is from, and that file has the block's lines in the same order. Spaces at both ends
 of a line, comments, and what `{ .. }` leaves out aren't compared. Blocks that begin with `python` are whole programs, which the tests of
-clients/python run."""
+clients/python run; tests/readme.sh runs the box of README.md that starts Python."""
 import re
 import sys
 from pathlib import Path

@@ -3,10 +3,13 @@
 `Document.open` starts the program `jdoc serve` and speaks with it over a pipe, or calls the library for C if `build_library` made it.
 All that a document does is done there; this package turns calls into requests, and refusals into exceptions.
 """
-from .document import Answer, BadLine, Document, ItemId, Path, Receipt, Scalar, Status, Step, Value
-from .errors import REFUSALS, Died, JdocError, Lost, Refused, Unsaved
+from .document import Answer, BadLine, Document, Receipt, Status
+from .errors import (
+    REFUSALS, Damaged, Died, JdocError, Locked, Lost, NoProgram, NotFound, OtherProcess, Refused, Unsaved, WrongNumber
+)
+from .values import ItemId, Path, Scalar, Step, Value
 
 __all__ = [
-    "Answer", "BadLine", "Died", "Document", "ItemId", "JdocError", "Lost", "Path", "REFUSALS", "Receipt", "Refused", "Scalar", "Status",
-    "Step", "Unsaved", "Value",
+    "Answer", "BadLine", "Damaged", "Died", "Document", "ItemId", "JdocError", "Locked", "Lost", "NoProgram", "NotFound",
+    "OtherProcess", "Path", "REFUSALS", "Receipt", "Refused", "Scalar", "Status", "Step", "Unsaved", "Value", "WrongNumber",
 ]

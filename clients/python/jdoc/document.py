@@ -5,27 +5,12 @@ import json
 import os
 import secrets
 import threading
-from typing import Any, List, Mapping, NamedTuple, Optional, Sequence, Tuple, Union
+from typing import Any, List, NamedTuple, Optional, Sequence, Tuple, Union
 
 from .child import Child
-from .errors import Died, Lost, Refused, Unsaved
+from .errors import Died, Lost, OtherProcess, Refused, Unsaved
 from .library import Library
-
-
-class ItemId(NamedTuple):
-    """The id of an operation. That of an insert is the id of its item for good, wherever the item's position moves."""
-
-    counter: int
-    replica: int
-
-
-Step = Union[str, int, ItemId]
-"""A key of a map, a position in a list, counted from 0, or the id of an item of a list."""
-Path = Union[Step, Sequence[Step]]
-"""Steps from the root. Where a call takes `*path`, its parts are joined: `get("a", 0)`, `get(("a", 0))` and `get(("a",), 0)` are one."""
-Scalar = Union[None, bool, int, str]
-Value = Union[Scalar, Sequence["Value"], Mapping[str, "Value"]]
-Words = Union[str, "os.PathLike[str]", Sequence[str]]
+from .values import MOST_DEPTH, ItemId, Part, Path, Plain, Scalar, Value, Words, checked, expression, from_one
 
 
 class Answer(NamedTuple):
@@ -62,14 +47,15 @@ class Status(NamedTuple):
     saved: int
 
 
-# The greatest depth of a document, and more elements than any has: each of its 1,048,576 operations adds 33 at most.
-MOST_DEPTH = 32
+# More elements than any document has: each of its 1,048,576 operations adds 33 at most.
 MOST_ELEMENTS = 1_048_576 * (MOST_DEPTH + 1)
 # The most bytes of a request, with its line feed, and the greatest number of a device.
 MOST_BYTES = 33_554_432
 MOST_NUMBER = 4_294_967_295
-# Where `build_library` puts the library.
-BUILT = os.path.join(os.path.dirname(os.path.abspath(__file__)), "libjdoc.so")
+# Where `build_library` puts the library, and where the repository is if this package lies in it.
+HERE = os.path.dirname(os.path.abspath(__file__))
+BUILT = os.path.join(HERE, "libjdoc.so")
+TOP = os.path.dirname(os.path.dirname(os.path.dirname(HERE)))
 
 
 class Document:
@@ -77,12 +63,17 @@ class Document:
     request gets its reply before the next one is sent. What the engine refuses is raised as `Refused`. Any call may raise `Died`, and one
     that writes or receives may raise `Unsaved` and `Lost`; with the library `answer` may too, while something isn't saved.
 
+    If a signal handler raises an exception, such as `KeyboardInterrupt`, during a call, it isn't known whether what was asked for is done;
+    the document goes on. A document belongs to the process that opened it: in a process that was forked from that, each call raises
+    `OtherProcess`, and `close` does nothing. A document that nothing refers to any more is closed.
+
     A position is counted when the call is handled. To be sure of the item that was seen, use its id, from `items` or from `insert`.
     """
 
     def __init__(self, child: Union[Child, Library]) -> None:
         """For a program that was started, or the library; `open` calls this."""
         self._child = child
+        self._process = os.getpid()
         self._lock = threading.RLock()
         self._is_closed = False
         self.number: int = self._reply("ready", b"")[1]
@@ -99,7 +90,8 @@ class Document:
 
         `program` is the path of the program that keeps the document, or its words; `library` is the shared object that keeps it in this
         process. If neither is given, the environment's `JDOC_LIBRARY` is the library's path, or else its `JDOC` is the program's; or else
-        it is the library that `build_library` made, or else `jdoc` on the PATH.
+        it is the library that `build_library` made, or the launcher of the repository that this package lies in (whose first start
+        compiles the program, in a minute or two), or else `jdoc` on the PATH.
         """
         if number is None and not (path is not None and _knows_number(path)):
             number = 1 + secrets.randbelow(MOST_NUMBER)
@@ -108,7 +100,7 @@ class Document:
                 raise ValueError(f"a device's number is from 1 to {MOST_NUMBER}: {number}")
         if library := library or (None if program else _library()):
             return cls(Library(os.fspath(library), None if path is None else os.path.abspath(path), number))
-        program = program or os.environ.get("JDOC") or "jdoc"
+        program = program or os.environ.get("JDOC") or _launcher() or "jdoc"
         words = [os.fspath(program)] if isinstance(program, (str, os.PathLike)) else [*program]
         words.append("serve")
         if path is not None:
@@ -119,6 +111,8 @@ class Document:
 
     def close(self) -> None:
         """Ends the program. What it couldn't save, as `Unsaved` said, is lost."""
+        if self._process != os.getpid():
+            return
         with self._lock:
             if not self._is_closed:
                 self._is_closed = True
@@ -133,47 +127,59 @@ class Document:
     def set(self, path: Path, value: Value) -> ItemId:
         """Writes a value over everything at the path, and returns the operation's id.
 
-        A dict or a list is written part by part, so a peer may see some of it, and if a part is refused those before it stay. A
-        document has only whole numbers of 64 bits: a float is refused (E21). All parts are checked before anything is written.
+        Each limit is checked before anything is written, for each part of a dict or a list: the bytes of keys and texts, the depth, and
+        that a number is whole in 64 bits. `Refused` then says which part it is, and nothing has changed.
+
+        A dict or a list is written part by part, each as an operation of its own, so a peer may see some of it. What ends the call between
+        two parts leaves those before it: a full history (E8), an allocation that failed (E1), `Unsaved`, `Lost`, `Died`, and an exception
+        from a signal handler.
         """
-        return self._write_checked("assign", _expression(path), value)
+        at = expression(path)
+        return self._write_checked("assign", at, value, len(at))
 
     def insert(self, path: Path, position: int, value: Value) -> ItemId:
         """Inserts an item into the list at the path so that it has this position, and returns its id. A position past the end is
-        refused (E3)."""
-        return self._write_checked("insert", [*_expression(path), _from_one(position) - 1], value)
+        refused (E3). The value is checked, and written, as by `set`."""
+        at = [*expression(path), from_one(position) - 1]
+        return self._write_checked("insert", at, value, len(at))
 
     def insert_after(self, path: Path, value: Value) -> ItemId:
-        """Inserts an item right after the one at the path, and returns its id."""
-        return self._write_checked("insert", _expression(path), value)
+        """Inserts an item right after the one at the path, and returns its id. The value is checked, and written, as by `set`."""
+        at = expression(path)
+        return self._write_checked("insert", at, value, len(at))
 
     def append(self, path: Path, value: Value) -> ItemId:
-        """Inserts an item at the end of the list at the path, and returns its id. It asks for all ids of the list."""
-        with self._lock:
+        """Inserts an item at the end of the list at the path, and returns its id. It asks for all ids of the list. The value is checked,
+        and written, as by `set`."""
+        at = expression(path)
+        plain = checked(value, len(at) + 1)
+        with self._turn():
             before: List[object] = [*self.items(path)[-1:]] or [0]
-            return self._write_checked("insert", _expression(path) + before, value)
+            return self._write("insert", at + before, plain)
 
     def delete(self, path: Path) -> ItemId:
         """Deletes what is at the path, and returns the operation's id. What others write there concurrently stays."""
-        return self._make("delete", _expression(path))
+        return self._make("delete", expression(path))
 
-    def _write_checked(self, command: str, place: List[object], value: Value) -> ItemId:
-        _check(value)
-        with self._lock:
-            return self._write(command, place, value)
+    def _write_checked(self, command: str, place: List[object], value: Value, depth: int) -> ItemId:
+        plain = checked(value, depth)
+        with self._turn():
+            return self._write(command, place, plain)
 
-    def _write(self, command: str, place: List[object], value: Value) -> ItemId:
-        if value is None or isinstance(value, (int, str)):
-            return self._make(command, place, value)
-        made = self._make(command, place, {} if isinstance(value, Mapping) else [])
+    def _write(self, command: str, place: List[object], value: Plain, part: Part = ()) -> ItemId:
+        """Writes a value that was checked, with all its parts. `part` is the way to it from the value that the caller gave."""
+        try:
+            made = self._make(command, place, {} if isinstance(value, dict) else [] if isinstance(value, list) else value)
+        except Refused as fault:
+            raise Refused(fault.code, part) from None
         at = place if command == "assign" else [*place[:-1], made]
-        if isinstance(value, Mapping):
-            for key, part in value.items():
-                self._write("assign", [*at, key], part)
-        else:
+        if isinstance(value, dict):
+            for key, it in value.items():
+                self._write("assign", [*at, key], it, (*part, key))
+        elif isinstance(value, list):
             before: object = 0
-            for part in value:
-                before = self._write("insert", [*at, before], part)
+            for position, it in enumerate(value):
+                before = self._write("insert", [*at, before], it, (*part, position))
         return made
 
     def _make(self, *command: object) -> ItemId:
@@ -186,7 +192,7 @@ class Document:
         `"list"` that are present. What is deeper than `depth`, or after the first `elements` elements, is cut: a dict then has
         `"?": "cut"`, and a list ends in `{"?": "cut"}`. A key of the document that begins with `?` gets one more in front.
         """
-        return self._ask("glance", "glance", _expression(*path), depth, elements)[2]
+        return self._ask("glance", "glance", expression(*path), depth, elements)[2]
 
     def to_json(self) -> str:
         """The whole document as text, in the form of `get`."""
@@ -194,21 +200,21 @@ class Document:
 
     def values(self, *path: Path) -> List[Tuple[ItemId, Scalar]]:
         """The values of the register at the path with the ids of their writes, in ascending id order. More than one is a conflict."""
-        return [(ItemId(*it), value) for it, value in self._ask("reading", "values", _expression(*path))[2]]
+        return [(ItemId(*it), value) for it, value in self._ask("reading", "values", expression(*path))[2]]
 
     def keys(self, *path: Path) -> List[str]:
         """The keys of the map at the path, in ascending byte order."""
-        keys: List[str] = self._ask("reading", "keys", _expression(*path))[2]
+        keys: List[str] = self._ask("reading", "keys", expression(*path))[2]
         return keys
 
     def items(self, *path: Path) -> List[ItemId]:
         """The ids of the items of the list at the path, in list order."""
-        return [ItemId(*it) for it in self._ask("reading", "items", _expression(*path))[2]]
+        return [ItemId(*it) for it in self._ask("reading", "items", expression(*path))[2]]
 
     def conflicts(self, *path: Path) -> List[Tuple[ItemId, str]]:
         """What keeps the element at the path visible, in ascending id order: each live write at it or beneath, and whether that makes it a
         `"map"`, a `"list"` or a register, `"reg"`. More than one register, or different ones of these, are a conflict."""
-        return [(ItemId(*it), tag) for it, tag in self._ask("reading", "conflicts", _expression(*path))[2]]
+        return [(ItemId(*it), tag) for it, tag in self._ask("reading", "conflicts", expression(*path))[2]]
 
     def hello(self) -> bytes:
         """A line that tells a peer what is known here."""
@@ -263,6 +269,12 @@ class Document:
         """True, even if there is no operation yet."""
         return True
 
+    def _turn(self) -> threading.RLock:
+        """What a thread holds while it asks. Raises `OtherProcess` in another process, where a thread that is gone may hold it for ever."""
+        if self._process != (here := os.getpid()):
+            raise OtherProcess(self._process, here)
+        return self._lock
+
     def _ask(self, word: str, *request: object) -> List[Any]:
         line = _line(request)
         if len(line) > MOST_BYTES:
@@ -271,7 +283,7 @@ class Document:
 
     def _reply(self, word: str, line: bytes) -> List[Any]:
         """The program's reply to this line. A reply that doesn't begin with the word is raised as an exception."""
-        with self._lock:
+        with self._turn():
             if self._is_closed:
                 raise ValueError("the document is closed")
             said = self._child.ask(line)
@@ -292,45 +304,17 @@ def _line(parts: Sequence[object]) -> bytes:
     return json.dumps(parts, ensure_ascii=False, allow_nan=False, separators=(",", ":")).encode() + b"\n"
 
 
-def _from_one(position: int) -> int:
-    """A position as the protocol counts it: from 1, since 0 is the head of a list, after which its first item is inserted."""
-    if isinstance(position, bool) or not isinstance(position, int):
-        raise TypeError(f"not a position: {position!r}")
-    if position < 0:
-        raise ValueError(f"positions count from the front of a list: {position}")
-    return position + 1
-
-
-def _expression(*path: Path) -> List[object]:
-    """The steps of these paths, one after another, as the protocol writes them."""
-    steps = (step for part in path for step in ((part,) if isinstance(part, (str, int, ItemId)) else part))
-    return [step if isinstance(step, (str, ItemId)) else _from_one(step) for step in steps]
-
-
-def _check(value: Value) -> None:
-    """Refuses what no document can hold, in the value and all its parts."""
-    if isinstance(value, str):
-        value.encode()
-    elif isinstance(value, Mapping):
-        for key, part in value.items():
-            if not isinstance(key, str):
-                raise TypeError(f"not a key: {key!r}")
-            key.encode()
-            _check(part)
-    elif isinstance(value, float) or (isinstance(value, int) and not -(2**63) <= value < 2**63):
-        raise Refused("E21")
-    elif isinstance(value, Sequence) and not isinstance(value, (bytes, bytearray, memoryview)):
-        for part in value:
-            _check(part)
-    elif value is not None and not isinstance(value, int):
-        raise TypeError(f"not a value of a document: {value!r}")
-
-
 def _library() -> Optional[str]:
     """The path of the library, if the environment names one, or if it names no program and one was built."""
     if library := os.environ.get("JDOC_LIBRARY"):
         return library
     return BUILT if not os.environ.get("JDOC") and os.path.exists(BUILT) else None
+
+
+def _launcher() -> Optional[str]:
+    """The path of the repository's launcher, if this package lies in a repository."""
+    launcher = os.path.join(TOP, "jdoc")
+    return launcher if os.path.exists(os.path.join(TOP, "crates.txt")) and os.access(launcher, os.X_OK) else None
 
 
 def _knows_number(path: Union[str, os.PathLike[str]]) -> bool:

@@ -1,6 +1,8 @@
 """What can go wrong: every exception of this package is a `JdocError`."""
 from __future__ import annotations
 
+from typing import Optional, Tuple, Union
+
 # Each refusal of the engine: its name, and when it occurs, in the words of docs/RULES.md, 'Refusals', which also says what to do then.
 REFUSALS = {
     "E1": ("NoMemory", "an allocation failed"),
@@ -41,20 +43,24 @@ class JdocError(Exception):
 
 
 class Refused(JdocError):
-    """The engine refused a request, and nothing has changed. `code` is the refusal's number, such as `"E3"`."""
+    """A request was refused, and nothing has changed. `code` is the refusal's number, such as `"E3"`. If it concerns a part of a dict or a
+    list that was to be written, `part` is the way to it by keys and positions, such as `("body", 0)`; else it is empty.
 
-    def __init__(self, code: str) -> None:
-        super().__init__(code)
-        self.code = code
+    Only a full history (E8) or a failed allocation (E1) can refuse such a part after others were written; those stay.
+    """
+
+    def __init__(self, code: str, part: Tuple[Union[str, int], ...] = ()) -> None:
+        super().__init__(code, part)
+        self.code, self.part = code, part
         self.name, self.meaning = REFUSALS.get(code, ("Unknown", "a refusal that this package doesn't know"))
 
     def __str__(self) -> str:
-        return f"{self.code} {self.name}: {self.meaning}"
+        return f"{self.code} {self.name}: {self.meaning}" + (f", in the value at {list(self.part)!r}" if self.part else "")
 
 
 class Unsaved(JdocError):
     """What was asked for is in the document, but only `saved` of its `length` operations are in the file. Don't write it again:
-    `save`, or the next write, saves it too."""
+    `save`, or the next write, saves it too. Of a dict or a list the document then has what was written until here, as `get` shows."""
 
     def __init__(self, length: int, saved: int) -> None:
         super().__init__(length, saved)
@@ -72,3 +78,58 @@ class Lost(JdocError):
 class Died(JdocError):
     """The program, or the document in the library, couldn't be started, or it ended; the message says why, with what the program said on
     standard error. It isn't known whether a request that was under way was done. What was called saved before is saved."""
+
+
+class NoProgram(Died):
+    """There is no such program or library, or it can't be started."""
+
+
+class NotFound(Died):
+    """There is no folder for the file."""
+
+
+class Locked(Died):
+    """Another program has the file, or another document of this process. `holder` is the process that has it, where the system tells."""
+
+    def __init__(self, text: str, holder: Optional[int] = None) -> None:
+        super().__init__(text, holder)
+        self.text, self.holder = text, holder
+
+    def __str__(self) -> str:
+        return self.text
+
+
+class WrongNumber(Died):
+    """The file is of another device: `number` is that device's, if it is known."""
+
+    def __init__(self, text: str, number: Optional[int] = None) -> None:
+        super().__init__(text, number)
+        self.text, self.number = text, number
+
+    def __str__(self) -> str:
+        return self.text
+
+
+class Damaged(Died):
+    """A line of the file isn't one that a document writes there: the file was changed, or it isn't a document. The file stays as it was.
+    `line` counts from 1, and `reason` is the refusal's number, such as `"E22"`, if it is known."""
+
+    def __init__(self, text: str, line: int, reason: Optional[str] = None) -> None:
+        super().__init__(text, line, reason)
+        self.text, self.line, self.reason = text, line, reason
+
+    def __str__(self) -> str:
+        name, meaning = REFUSALS.get(self.reason or "", ("", ""))
+        return f"{self.text} ({name}: {meaning})" if name else self.text
+
+
+class OtherProcess(JdocError):
+    """The document was opened in another process. After a fork the document stays with the process that opened it: open another one, with a
+    file and a number of its own, and exchange, or let that process do the writing."""
+
+    def __init__(self, opened: int, used: int) -> None:
+        super().__init__(opened, used)
+        self.opened, self.used = opened, used
+
+    def __str__(self) -> str:
+        return f"the document belongs to process {self.opened}, which opened it, and this is process {self.used}"

@@ -57,7 +57,7 @@ class Values(Case):
     def test_a_request_that_is_too_long_is_not_sent(self) -> None:
         document = self.open(number=1)
         with self.assertRaisesRegex(ValueError, "33554432"):
-            document.set("k", "x" * 33_554_432)
+            document.get("x" * 33_554_432)
         with self.assertRaisesRegex(ValueError, "33554432"):
             document.receive(b"x" * 33_554_432)
         document.set("k", 1)
@@ -171,7 +171,7 @@ class Conflicts(Case):
 
 class Pages(Case):
     def test_their_code_runs(self) -> None:
-        for page in ("clients/python/README.md", "README.md", "docs/EMBEDDING.md"):
+        for page in ("clients/python/README.md", "docs/EMBEDDING.md"):
             text = (TOP / page).read_text(encoding="utf-8")
             code = text.split("```python\n")[1].split("```")[0]
             # A file that the code opens is in the test's folder.

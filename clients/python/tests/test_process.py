@@ -6,7 +6,6 @@ import signal
 import threading
 import time
 import unittest
-from contextlib import suppress
 from typing import Any
 
 from jdoc import Died, Document, Lost, Status, Unsaved
@@ -82,6 +81,7 @@ class Ends(Case):
             (["sh", "-c", "echo what is wrong >&2; exit 3"], "status 3: what is wrong"),
             (["sh", "-c", "kill -9 $$"], "signal 9"),
             (["sh", "-c", "echo hello; sleep 100"], "hello"),
+            (["sh", "-c", "echo '['; echo ']'; sleep 100"], "more than a line|was due"),
         ):
             with self.assertRaisesRegex(Died, why):
                 Document.open(program=program)
@@ -120,22 +120,6 @@ class Ends(Case):
         os.kill(pid(document), signal.SIGKILL)
         self.join(threads)
         self.assertEqual(len(told), 5)
-
-    def test_an_interrupted_request_does_not_shift_the_replies(self) -> None:
-        document = self.open(number=1)
-        document.set("k", 1)
-        process = document._child._process
-        os.kill(process.pid, signal.SIGSTOP)
-        timer = threading.Timer(0.1, os.kill, (os.getpid(), signal.SIGINT))
-        timer.start()
-        with self.assertRaises(KeyboardInterrupt):
-            document.get()
-        timer.join()
-        # If it wasn't ended, it goes on.
-        with suppress(ProcessLookupError):
-            os.kill(process.pid, signal.SIGCONT)
-        with self.assertRaisesRegex(Died, "interrupted"):
-            document.keys()
 
     def test_a_closed_document_is_closed(self) -> None:
         document = self.open(number=1)
