@@ -4,9 +4,9 @@
 All that a document does is done there; this package turns calls into requests, and refusals into exceptions.
 """
 from .document import Answer, BadLine, Document, ItemId, Path, Receipt, Scalar, Status, Step, Value
-from .errors import REFUSALS, Died, JdocError, Lost, Refused, Unsaved
+from .errors import REFUSALS, Damaged, Died, Gone, JdocError, Locked, Lost, NoProgram, NotFound, Refused, Unsaved, WrongNumber
 
 __all__ = [
-    "Answer", "BadLine", "Died", "Document", "ItemId", "JdocError", "Lost", "Path", "REFUSALS", "Receipt", "Refused", "Scalar", "Status",
-    "Step", "Unsaved", "Value",
+    "Answer", "BadLine", "Damaged", "Died", "Document", "Gone", "ItemId", "JdocError", "Locked", "Lost", "NoProgram", "NotFound", "Path",
+    "REFUSALS", "Receipt", "Refused", "Scalar", "Status", "Step", "Unsaved", "Value", "WrongNumber",
 ]

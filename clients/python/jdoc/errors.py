@@ -72,3 +72,32 @@ class Lost(JdocError):
 class Died(JdocError):
     """The program, or the document in the library, couldn't be started, or it ended; the message says why, with what the program said on
     standard error. It isn't known whether a request that was under way was done. What was called saved before is saved."""
+
+
+class Locked(Died):
+    """The file is open elsewhere, in this program or in another one."""
+
+
+class Damaged(Died):
+    """A line of the file doesn't fit: the file was changed, or isn't a document's. `line` counts from 1, and `reason` says why."""
+
+    def __init__(self, message: str, line: int, reason: str) -> None:
+        super().__init__(message)
+        self.line, self.reason = line, reason
+
+
+class WrongNumber(Died):
+    """The number is another than the file's."""
+
+
+class NotFound(Died):
+    """The folder of the file doesn't exist."""
+
+
+class NoProgram(Died):
+    """There is no such program, or no such library."""
+
+
+class Gone(JdocError):
+    """The file was moved, deleted, replaced or changed by others while it was open, so what was asked for isn't in the file of that name.
+    The document is closed. Find out what became of the file before you open one of that name."""
