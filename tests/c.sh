@@ -1,24 +1,27 @@
 #!/usr/bin/env bash
-# c.sh: builds the library for C, and runs the example in examples/c with it: as it is, under valgrind, and with the compiler's
-# sanitizers. Each run must print what tests/c/shopping.stdout has, and nothing else. Then it runs tests/c/refused.c once for each
-# allocation that it makes, with that one refused. Leaves out what the machine lacks, and says so.
+# c.sh [LIBRARY]: builds the library for C, unless another one is given, and runs the example in examples/c with it: as it is, under
+# valgrind, and with the compiler's sanitizers. Each run must print what tests/c/shopping.stdout has, and nothing else. Then it runs
+# tests/c/refused.c once for each allocation that it makes, with that one refused, and the tests of documents in files. Leaves out what the
+# machine lacks, and says so.
 set -euo pipefail
 top=$(cd "$(dirname "$0")/.." && pwd)
 kit=$(dirname "$(rt doc)")
-library=$top/crates/jdoc_c/out/libjdoc_c.a
+library=${1:-$top/crates/jdoc_c/out/libjdoc_c.a}
 room=$(mktemp -d)
 trap 'rm -rf "$room"' EXIT
 passed=0
 failed=0
 
-"$top/tools/library"
+if [ $# = 0 ]; then
+    "$top/tools/library"
+fi
 
 # compiled NAME FILE [FLAG..]: a program of that name.
 compiled() {
     local name=$1 file=$2
     shift 2
     cc -std=c11 -Wall -Wextra -Wpedantic -Werror -O1 -g "$@" -I"$top/include" -o "$room/$name" \
-        "$top/$file" "$library" "$kit/c/liblibc_c.a" -pthread
+        "$top/$file" "$top/include/jdoc_file.c" "$library" "$kit/c/liblibc_c.a" -pthread
 }
 
 # played NAME WORD..: runs a program, with these words, in a folder of its own, and compares what it prints.
@@ -41,7 +44,7 @@ refused() {
     local program=$1 nth=1
     while :; do
         rm -f "$room/refused"
-        if ! REFUSE=$nth REFUSED=$room/refused LD_PRELOAD=$room/refuse.so "$program" > "$room/said" 2>&1; then
+        if ! REFUSE=$nth REFUSED=$room/refused LD_PRELOAD=$room/refuse.so "$program" "$room/memory_is_short.jdoc" > "$room/said" 2>&1; then
             cat "$room/said"
             echo "c: FAILED with allocation $nth refused"
             failed=$((failed + 1))
@@ -52,6 +55,20 @@ refused() {
     done
     passed=$((passed + 1))
     echo "c: passed with each of $((nth - 1)) allocations refused"
+}
+
+# kept WHAT WORD..: runs a test of documents in files, with these words, which must say nothing but what passed.
+kept() {
+    local what=$1
+    shift
+    if timeout 120 "$@" > "$room/printed" 2> "$room/said" && [ ! -s "$room/said" ]; then
+        passed=$((passed + 1))
+        sed 's/^/c: passed /' "$room/printed"
+    else
+        cat "$room/said"
+        echo "c: FAILED: $what"
+        failed=$((failed + 1))
+    fi
 }
 
 compiled plain examples/c/shopping.c
@@ -79,5 +96,29 @@ fi
 compiled memory_is_short tests/c/refused.c
 cc -shared -fPIC -O1 -fno-builtin -o "$room/refuse.so" "$top/tests/refuse.c"
 refused "$room/memory_is_short"
+
+# What a disk keeps isn't tested here, and each write is synced.
+disk=$room
+if [ -d /dev/shm ] && [ -w /dev/shm ]; then
+    disk=$(mktemp -d /dev/shm/jdoc.XXXXXX)
+    trap 'rm -rf "$room" "$disk"' EXIT
+fi
+cc -shared -fPIC -O1 -Wall -Wextra -Werror -o "$room/fail.so" "$top/tests/fail.c"
+for test in kept_file kept_faults; do
+    compiled "$test" "tests/c/$test.c"
+    kept "$test" "$room/$test" "$disk"
+    if [ -x "$room/address" ]; then
+        compiled "${test}_address" "tests/c/$test.c" -fsanitize=address,undefined
+        kept "$test with sanitizers" "$room/${test}_address" "$disk"
+    fi
+done
+kept 'calls that fail' env LD_PRELOAD="$room/fail.so" "$room/kept_faults" "$disk"
+mkdir "$room/small"
+# shellcheck disable=SC2016 # $1 and $2 are those of the inner shell.
+if unshare --mount sh -c 'mount -t tmpfs -o size=256k tmpfs "$1"' sh "$room/small" 2> "$room/said"; then
+    kept 'a full disk' unshare --mount sh -c 'mount -t tmpfs -o size=256k tmpfs "$1" && "$2" "$1" full' sh "$room/small" "$room/kept_file"
+else
+    echo "c: no small disk can be mounted here, so a full one isn't tested"
+fi
 echo "c: $passed runs passed, $failed failed"
 [ "$failed" = 0 ]

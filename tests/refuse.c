@@ -10,6 +10,7 @@ extern char *getenv(const char *);
 extern int atoi(const char *);
 extern int creat(const char *, unsigned);
 extern int close(int);
+extern int *__errno_location(void);
 
 static int wanted, made;
 static const char *refused;
@@ -28,6 +29,8 @@ static int is_refused(void) {
     if (refused) {
         close(creat(refused, 0600));
     }
+    /* ENOMEM, as malloc says it. */
+    *__errno_location() = 12;
     return 1;
 }
 

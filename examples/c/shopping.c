@@ -3,13 +3,12 @@
  *     shopping FOLDER
  *
  * The phone's document is written by this thread, and two other threads follow it and show it, without locks. The laptop's document is
- * written concurrently, and each gets what it lacks from the other, as they would over a network. Each keeps its journal in a file of the
+ * written concurrently, and each gets what it lacks from the other, as they would over a network. Each keeps its document in a file of the
  * folder, which must exist and be empty. At the end the phone's document is opened again from its file.
  */
-/* fsync, ftruncate and threads. */
 #define _POSIX_C_SOURCE 200809L
 
-#include "jdoc.h"
+#include "jdoc_file.h"
 
 #include <pthread.h>
 #include <sched.h>
@@ -17,14 +16,13 @@
 #include <stdio.h>
 #include <stdlib.h>
 #include <string.h>
-#include <unistd.h>
 
 #define COUNTS 200
 
 /* Ends the program: an example can do nothing else about it. */
 static void fail(const char *what, uint32_t status)
 {
-    fprintf(stderr, "shopping: %s: status %u\n", what, (unsigned)status);
+    fprintf(stderr, "shopping: %s: %s\n", what, jdoc_file_text(status));
     exit(1);
 }
 
@@ -43,85 +41,47 @@ static struct text text_of_length(size_t length)
     return text;
 }
 
-/* A function that copies bytes to the caller, and says how long they are, even if they don't fit. */
-typedef uint32_t copies(jdoc_handle *handle, char *out, size_t room, size_t *length);
-
-/* Everything that it copies. */
-static struct text copy_of(jdoc_handle *handle, copies *copy, const char *what)
+static struct text copy_of(const char *bytes, size_t length)
 {
-    struct text text = text_of_length(255);
-    uint32_t status = copy(handle, text.bytes, text.length, &text.length);
-    if (status == JDOC_TOO_SHORT) {
-        size_t length = text.length;
-        free(text.bytes);
-        text = text_of_length(length);
-        status = copy(handle, text.bytes, text.length, &text.length);
-    }
-    if (status != JDOC_DONE)
-        fail(what, status);
-    text.bytes[text.length] = '\0';
+    struct text text = text_of_length(length);
+    memcpy(text.bytes, bytes, length);
     return text;
 }
 
-/* A document, and the file that keeps its journal. */
+/* A document that is kept in a file. */
 struct device {
     const char *name;
-    jdoc_handle document;
-    FILE *journal;
+    jdoc_file *file;
 };
 
-/* Opens a document that resumes from its file, which may be empty. */
+/* Opens the document in its file, which is created if it doesn't exist. */
 static void open_device(struct device *device, const char *folder, const char *name, uint32_t number)
 {
     char path[4096];
-    snprintf(path, sizeof path, "%s/%s.journal", folder, name);
+    snprintf(path, sizeof path, "%s/%s.jdoc", folder, name);
     device->name = name;
-    device->document = (jdoc_handle)JDOC_CLOSED_HANDLE;
-    device->journal = fopen(path, "a+");
-    if (device->journal == NULL || fseek(device->journal, 0, SEEK_END) != 0)
-        fail(path, 0);
-    struct text lines = text_of_length((size_t)ftell(device->journal));
-    rewind(device->journal);
-    if (fread(lines.bytes, 1, lines.length, device->journal) != lines.length)
-        fail(path, 0);
-
-    size_t taken;
-    uint32_t status = jdoc_open(&device->document, number, lines.bytes, lines.length, &taken);
+    device->file = NULL;
+    uint32_t status = jdoc_file_open(&device->file, path, number);
     if (status != JDOC_DONE)
-        fail("jdoc_open", status);
-    /* A line that was cut off is removed. */
-    if (ftruncate(fileno(device->journal), (off_t)taken) != 0)
-        fail(path, 0);
-    free(lines.bytes);
+        fail(path, status);
 }
 
 static void close_device(struct device *device)
 {
-    jdoc_close(&device->document);
-    fclose(device->journal);
-}
-
-/* Stores what came of the calls. */
-static void store(struct device *device)
-{
-    struct text lines = copy_of(&device->document, jdoc_lines, "jdoc_lines");
-    if (fwrite(lines.bytes, 1, lines.length, device->journal) != lines.length || fflush(device->journal) != 0
-        || fsync(fileno(device->journal)) != 0)
-        fail(device->name, 0);
-    free(lines.bytes);
-    uint32_t status = jdoc_lines_stored(&device->document);
+    uint32_t status = jdoc_file_close(&device->file);
     if (status != JDOC_DONE)
-        fail("jdoc_lines_stored", status);
+        fail(device->name, status);
 }
 
-/* The reply to a request, which may be used at once: what it calls done is stored. */
+/* The reply to a request: what it calls done is saved. */
 static struct text call(struct device *device, const char *request)
 {
-    uint32_t status = jdoc_call(&device->document, request, strlen(request));
+    const char *reply;
+    size_t length;
+    uint32_t status = jdoc_file_call(device->file, request, strlen(request), &reply, &length);
     if (status != JDOC_DONE)
-        fail("jdoc_call", status);
-    store(device);
-    return copy_of(&device->document, jdoc_reply, "jdoc_reply");
+        fail(request, status);
+    return copy_of(reply, length);
 }
 
 /* Shows a request and its reply. */
@@ -191,6 +151,23 @@ struct reader {
     struct text shown;
 };
 
+/* The reply to a reader's last question. */
+static struct text reply_of(jdoc_handle *reader)
+{
+    struct text text = text_of_length(255);
+    uint32_t status = jdoc_reply(reader, text.bytes, text.length, &text.length);
+    if (status == JDOC_TOO_SHORT) {
+        size_t length = text.length;
+        free(text.bytes);
+        text = text_of_length(length);
+        status = jdoc_reply(reader, text.bytes, text.length, &text.length);
+    }
+    if (status != JDOC_DONE)
+        fail("jdoc_reply", status);
+    text.bytes[text.length] = '\0';
+    return text;
+}
+
 static void *follow(void *argument)
 {
     static const char glance[] = "[\"glance\",[],9,99]";
@@ -208,7 +185,7 @@ static void *follow(void *argument)
         if (status != JDOC_DONE)
             fail("jdoc_ask", status);
         free(reader->shown.bytes);
-        reader->shown = copy_of(&reader->handle, jdoc_reply, "jdoc_reply");
+        reader->shown = reply_of(&reader->handle);
         sched_yield();
         end = atomic_load(&end_length);
     } while (end == 0 || length < end);
@@ -248,9 +225,9 @@ int main(int argc, char **argv)
     pthread_t threads[2];
     for (int index = 0; index < 2; index++) {
         readers[index] = (struct reader){JDOC_CLOSED_HANDLE, {NULL, 0}};
-        uint32_t status = jdoc_reader(&phone.document, &readers[index].handle, 16);
+        uint32_t status = jdoc_file_reader(phone.file, &readers[index].handle, 16);
         if (status != JDOC_DONE)
-            fail("jdoc_reader", status);
+            fail("jdoc_file_reader", status);
         if (pthread_create(&threads[index], NULL, follow, &readers[index]) != 0)
             fail("pthread_create", 0);
     }
@@ -258,9 +235,9 @@ int main(int argc, char **argv)
     write_list(&phone, &laptop);
     atomic_store(&end_length, (size_t)(COUNTS + 5));
     while (atomic_load(&arrived) < 2) {
-        uint32_t status = jdoc_feed(&phone.document);
+        uint32_t status = jdoc_file_feed(phone.file);
         if (status != JDOC_DONE)
-            fail("jdoc_feed", status);
+            fail("jdoc_file_feed", status);
         sched_yield();
     }
     for (int index = 0; index < 2; index++) {

@@ -1,7 +1,7 @@
-/* A document, its reader and a peer, run with each allocation refused in turn (tests/c.sh): a refused call is made again, and at the end
- * everything is as usual. It allocates nothing itself, and prints only what went wrong.
+/* A document, its reader and a peer, and a document in the file that its word names, run with each allocation refused in turn (tests/c.sh):
+ * a refused call is made again, and at the end everything is as usual. It allocates nothing itself, and prints only what went wrong.
  */
-#include "jdoc.h"
+#include "jdoc_file.h"
 
 #include <stdio.h>
 #include <stdlib.h>
@@ -69,7 +69,52 @@ static void bundle(jdoc_handle *document, char *request)
     snprintf(request, ROOM, "[\"receive\",%.*s]", (int)(end + 1 - (reply + 10)), reply + 10);
 }
 
-int main(void)
+/* Opens a file again if an allocation failed. */
+static jdoc_file *opened(const char *path)
+{
+    jdoc_file *file = NULL;
+    uint32_t status = jdoc_file_open(&file, path, 1);
+    if (status == JDOC_NO_MEMORY) {
+        expect(jdoc_file_close(&file) == JDOC_DONE, "closing what wasn't opened");
+        status = jdoc_file_open(&file, path, 1);
+    }
+    expect(status == JDOC_DONE, "jdoc_file_open");
+    return file;
+}
+
+/* Makes a request of a file, again if an allocation failed, and takes its reply. */
+static void ask_file(jdoc_file *file, const char *request)
+{
+    const char *said;
+    size_t length;
+    uint32_t status = jdoc_file_call(file, request, strlen(request), &said, &length);
+    if (status == JDOC_FILE_UNSAVED)
+        status = jdoc_file_call(file, "[\"save\"]", 8, &said, &length);
+    if (status == JDOC_NO_MEMORY || strstr(said, "\"E1\"") != NULL)
+        status = jdoc_file_call(file, request, strlen(request), &said, &length);
+    expect(status == JDOC_DONE && length < ROOM, request);
+    strcpy(reply, said);
+}
+
+/* A document in a file, with one more write if one was made again that was made. */
+static void keep(const char *path)
+{
+    int number, length, saved;
+    remove(path);
+    jdoc_file *file = opened(path);
+    ask_file(file, "[\"assign\",[\"n\"],1]");
+    ask_file(file, "[\"assign\",[\"n\"],2]");
+    expect(jdoc_file_close(&file) == JDOC_DONE, "jdoc_file_close");
+    file = opened(path);
+    ask_file(file, "[\"status\"]");
+    expect(sscanf(reply, "[\"status\",%d,%d,%d]", &number, &length, &saved) == 3, "status");
+    expect((length == 2 || length == 3) && saved == length, "two writes are in the file");
+    ask_file(file, "[\"glance\",[],9,99]");
+    expect(strstr(reply, ",{\"n\":2}]") != NULL, "the last one is shown");
+    expect(jdoc_file_close(&file) == JDOC_DONE, "jdoc_file_close");
+}
+
+int main(int argc, char **argv)
 {
     static const char glance[] = "[\"glance\",[],9,99]";
     static const char shown[] = "[\"glance\",3,{\"list\":[\"milk\"],\"title\":\"Shopping\"}]\n";
@@ -104,5 +149,7 @@ int main(void)
     expect(strcmp(reply, shown) == 0, shown);
     jdoc_close(&document);
     jdoc_close(&peer);
+    expect(argc == 2, "the file is missing");
+    keep(argv[1]);
     return 0;
 }

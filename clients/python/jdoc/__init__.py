@@ -5,11 +5,11 @@ All that a document does is done there; this package turns calls into requests, 
 """
 from .document import Answer, BadLine, Document, Receipt, Status
 from .errors import (
-    REFUSALS, Damaged, Died, JdocError, Locked, Lost, NoProgram, NotFound, OtherProcess, Refused, Unsaved, WrongNumber
+    REFUSALS, Damaged, Died, Gone, JdocError, Locked, Lost, NoProgram, NotFound, OtherProcess, Refused, Unsaved, WrongNumber
 )
 from .values import ItemId, Path, Scalar, Step, Value
 
 __all__ = [
-    "Answer", "BadLine", "Damaged", "Died", "Document", "ItemId", "JdocError", "Locked", "Lost", "NoProgram", "NotFound",
+    "Answer", "BadLine", "Damaged", "Died", "Document", "Gone", "ItemId", "JdocError", "Locked", "Lost", "NoProgram", "NotFound",
     "OtherProcess", "Path", "REFUSALS", "Receipt", "Refused", "Scalar", "Status", "Step", "Unsaved", "Value", "WrongNumber",
 ]

@@ -133,3 +133,8 @@ class OtherProcess(JdocError):
 
     def __str__(self) -> str:
         return f"the document belongs to process {self.opened}, which opened it, and this is process {self.used}"
+
+
+class Gone(JdocError):
+    """The file was moved, deleted, replaced or changed by others while it was open, so what was asked for isn't in the file of that name.
+    The document is closed. Find out what became of the file before you open one of that name."""

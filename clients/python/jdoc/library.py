@@ -1,151 +1,129 @@
-"""The library for C in this process: one line to it, one line back, and a file for the lines that it gives to store."""
+"""The library for C in this process: one line to it, one line back, and a file that it keeps (`include/jdoc_file.h`)."""
 from __future__ import annotations
 
 import ctypes
-import fcntl
 import json
 import os
-from contextlib import suppress
-from typing import Any, Optional
+import weakref
+from functools import partial
+from typing import Any, Dict, List, Optional, Set, Tuple
 
-from .errors import Died
+from .errors import Damaged, Died, Gone, JdocError, Locked, NoProgram, NotFound, WrongNumber
 
-# The numbers of `jdoc.h` that are used here, and why a document isn't opened.
-TOO_SHORT = 2
-WHY_NOT = {1: "memory was short", 5: "the number is another than the file's", 6: "a line of the file doesn't fit"}
+# The statuses of `jdoc_file.h` that are told apart here.
+DONE, UNSAVED, LOST, GONE, LOCKED, NOT_FOUND, DAMAGED, WRONG_NUMBER = 0, 16, 17, 18, 21, 22, 26, 27
+
+# The functions that are used: the type of what each returns, and of what it takes.
+POINTER, SIZE, TEXT = ctypes.c_void_p, ctypes.c_size_t, ctypes.c_char_p
+FUNCTIONS: Dict[str, Tuple[Any, List[Any]]] = {
+    "jdoc_file_open": (ctypes.c_uint32, [ctypes.POINTER(POINTER), TEXT, ctypes.c_uint32]),
+    # The function takes one word: the other one is the weak reference whose callback it is, or None.
+    "jdoc_file_close": (ctypes.c_uint32, [ctypes.POINTER(POINTER), ctypes.py_object]),
+    "jdoc_file_call": (ctypes.c_uint32, [POINTER, TEXT, SIZE, ctypes.POINTER(POINTER), ctypes.POINTER(SIZE)]),
+    "jdoc_file_number": (ctypes.c_uint32, [POINTER]),
+    "jdoc_file_line": (ctypes.c_uint64, [POINTER]),
+    "jdoc_file_error": (ctypes.c_int, [POINTER]),
+    "jdoc_file_text": (TEXT, [ctypes.c_uint32]),
+}
 
 
-class Handle(ctypes.Structure):
-    """The same as `jdoc_handle`."""
-
-    _fields_ = [("held", ctypes.c_void_p), ("is_open", ctypes.c_bool)]
+# What closes a document that is dropped, as long as it isn't. These callbacks have no bytecode, so no signal handler can end one before it
+# has closed the file; it could end one of `weakref.finalize`.
+CLOSERS: Set[weakref.ref[Library]] = set()
 
 
 class Library:
-    """A document in this process, for one thread at a time. It does what the program does over a pipe."""
+    """A document in this process, for one thread at a time. It does what the program does over a pipe.
+
+    An exception from a signal handler may end any call: each function of the library is one step for Python, and leaves the document and
+    its file as they are to be. A document that is dropped is closed.
+    """
 
     def __init__(self, library: str, path: Optional[str], number: Optional[int]) -> None:
-        # Why it ended, once it has.
+        name = None if path is None else os.fsencode(path)
+        if name is not None and b"\0" in name:
+            raise ValueError("embedded null byte")
+        # With what it ended, and why; and how many requests it was asked.
+        self._status = DONE
         self._end: Optional[str] = None
-        # The file, how many of its bytes are stored, how many operations these are, and whether there are more.
-        self._file: Optional[int] = None
-        self._length = 0
-        self._saved = 0
-        self._is_behind = False
-        self._handle = Handle()
-        self._room = ctypes.create_string_buffer(4096)
-        try:
-            self._calls = ctypes.CDLL(library)
-            lines = b"" if path is None else self._opened(path)
-            self._open(lines, number or 0)
-        except OSError as fault:
-            self._close()
-            raise Died(f"jdoc: {fault}") from fault
-        except Died:
-            self._close()
-            raise
+        self._turns = 0
+        self._file = POINTER()
+        self._calls = _loaded(library)
+        # The functions set the pointer themselves, so whatever interrupts the opening, the file is closed.
+        CLOSERS.difference_update([it for it in CLOSERS if it() is None])
+        CLOSERS.add(weakref.ref(self, partial(self._calls.jdoc_file_close, ctypes.byref(self._file))))
+        status = self._calls.jdoc_file_open(ctypes.byref(self._file), name, number or 0)
+        if status != DONE:
+            fault = self._fault(status, path)
+            self.close()
+            raise fault
 
-    def _opened(self, path: str) -> bytes:
-        """All bytes of the file, which is locked for this process."""
-        self._file = os.open(path, os.O_RDWR | os.O_CREAT | os.O_CLOEXEC, 0o666)
-        fcntl.flock(self._file, fcntl.LOCK_EX | fcntl.LOCK_NB)
-        with open(self._file, "rb", closefd=False) as file:
-            return file.read()
+    def _fault(self, status: int, path: Optional[str]) -> Died:
+        """Why the file isn't open."""
+        text = self._text(status)
+        said = f"jdoc: {text}" if path is None else f"jdoc: {text}: {path}"
+        if status == LOCKED:
+            return Locked(said)
+        if status == NOT_FOUND:
+            return NotFound(said)
+        if status == WRONG_NUMBER:
+            return WrongNumber(f"{said} has {self._calls.jdoc_file_number(self._file)}")
+        if status == DAMAGED:
+            line = self._calls.jdoc_file_line(self._file)
+            return Damaged(f"jdoc: line {line} of {path} doesn't fit", line, text)
+        error = self._calls.jdoc_file_error(self._file)
+        return Died(f"{said}: {os.strerror(error)}" if error else said)
 
-    def _open(self, lines: bytes, number: int) -> None:
-        taken = ctypes.c_size_t()
-        status = self._calls.jdoc_open(
-            ctypes.byref(self._handle), ctypes.c_uint32(number), lines, ctypes.c_size_t(len(lines)), ctypes.byref(taken)
-        )
-        if status:
-            raise Died(f"jdoc: {WHY_NOT.get(status, status)}")
-        self._length = taken.value
-        if self._file is not None:
-            if self._length < len(lines):
-                os.ftruncate(self._file, self._length)
-            os.fsync(self._file)
-        self._saved = self._status()[2]
+    def _text(self, status: int) -> str:
+        said: bytes = self._calls.jdoc_file_text(status)
+        return said.decode()
 
     def ask(self, line: bytes) -> bytes:
         """The reply to a line; without one, what the program says first. What a reply calls made, received or saved is in the file."""
-        if self._end is not None:
-            raise Died(self._end)
-        if not line:
-            number, length, _ = self._status()
-            return b'["ready",%d,%d]\n' % (number, length)
-        # What isn't saved isn't sent to a peer.
-        if self._is_behind and line.startswith(b'["answer"') and (fault := self._store()):
-            return fault
-        reply = self._call(line[:-1])
-        if reply.startswith((b'["made"', b'["received"', b'["saved"')):
-            return self._store() or reply
-        if self._is_behind and reply.startswith(b'["status"'):
-            return b'["status",%d,%d,%d]\n' % (*self._status()[:2], self._saved)
-        return reply
+        if line:
+            return self._call(line[:-1])
+        _, number, length, _ = json.loads(self._call(b'["status"]'))
+        return b'["ready",%d,%d]\n' % (number, length)
 
     def _call(self, line: bytes) -> bytes:
-        status = self._calls.jdoc_call(ctypes.byref(self._handle), line, ctypes.c_size_t(len(line)))
-        if status:
-            raise Died(self.end("had no memory for a reply"))
-        reply = self._copied(self._calls.jdoc_reply)
-        assert reply is not None
-        return reply
-
-    def _copied(self, copy: Any) -> Optional[bytes]:
-        """Everything that the function copies, or None if an allocation failed."""
-        length = ctypes.c_size_t()
-        for _ in range(2):
-            room = ctypes.c_size_t(len(self._room))
-            status = copy(ctypes.byref(self._handle), self._room, room, ctypes.byref(length))
-            if status != TOO_SHORT:
-                break
-            self._room = ctypes.create_string_buffer(length.value)
-        return None if status else self._room.raw[: length.value]
-
-    def _status(self) -> Any:
-        """The number, and how many operations there are, twice: the library counts them all as saved."""
-        return json.loads(self._call(b'["status"]'))[1:]
-
-    def _store(self) -> bytes:
-        """Appends what isn't stored to the file. Returns the response if that fails, else no bytes."""
-        if self._file is None:
-            return b""
-        lines = self._copied(self._calls.jdoc_lines)
-        try:
-            written = 0
-            while lines is not None and written < len(lines):
-                written += os.pwrite(self._file, lines[written:], self._length + written)
-        except OSError:
-            lines = None
-        try:
-            if lines is None:
-                os.ftruncate(self._file, self._length)
-                self._is_behind = True
-                return b'["unsaved",%d,%d]\n' % (self._status()[1], self._saved)
-            os.fsync(self._file)
-        except OSError:
-            self.end("couldn't tell what the file has")
+        if self._status == LOST:
             return b'["lost"]\n'
-        self._calls.jdoc_lines_stored(ctypes.byref(self._handle))
-        self._length += len(lines)
-        self._saved += lines.count(b"\n")
-        self._is_behind = False
-        return b""
+        if self._status == GONE:
+            raise Gone(self._text(GONE))
+        if self._end is not None:
+            raise Died(self._end)
+        self._turns = turn = self._turns + 1
+        reply, length = POINTER(), SIZE()
+        status: int = self._calls.jdoc_file_call(self._file, line, len(line), ctypes.byref(reply), ctypes.byref(length))
+        said = ctypes.string_at(reply, length.value)
+        if status in (LOST, GONE):
+            self._status = status
+            # Whoever opens the file again needs the lock.
+            self.close()
+            return self._call(line)
+        if self._turns != turn:
+            raise JdocError("a signal handler used the document during this call, whose reply is gone")
+        if not said:
+            raise Died(f"jdoc: {self._text(status)}")
+        return said
 
     def end(self, why: str) -> str:
         """Closes the document for this reason, and returns it."""
-        self._close()
         self._end = f"jdoc {why}"
+        self.close()
         return self._end
 
     def close(self) -> None:
-        """Closes the document."""
-        self._close()
+        """Closes the document, and saves what isn't saved if it can."""
+        self._calls.jdoc_file_close(ctypes.byref(self._file), None)
 
-    def _close(self) -> None:
-        if self._handle.is_open:
-            self._calls.jdoc_close(ctypes.byref(self._handle))
-        if self._file is not None:
-            with suppress(OSError):
-                os.close(self._file)
-            self._file = None
+
+def _loaded(library: str) -> ctypes.CDLL:
+    try:
+        calls = ctypes.CDLL(library)
+        for name, (result, words) in FUNCTIONS.items():
+            function = getattr(calls, name)
+            function.restype, function.argtypes = result, words
+    except (OSError, AttributeError) as fault:
+        raise NoProgram(f"jdoc: {fault}") from fault
+    return calls

@@ -4,7 +4,7 @@ use crate::Error;
 
 /// The same as `jdoc_handle` of `jdoc.h`.
 #[repr(C)]
-struct Parts {
+pub struct Parts {
     held: *mut u8,
     is_open: bool,
 }
@@ -33,9 +33,9 @@ const TOO_SHORT: u32 = 2;
 /// A function that copies bytes into a buffer.
 type Copies = unsafe extern "C" fn(*mut Parts, *mut u8, usize, *mut usize) -> u32;
 
-/// An open handle. It is closed when it is dropped.
+/// A handle, at a place that it keeps as long as it is open. It is closed when it is dropped.
 pub struct Handle {
-    parts: Parts,
+    parts: Box<Parts>,
 }
 
 // SAFETY: what a handle holds is reached only through it, each call takes `&mut`, and the library says that a handle may go to another
@@ -45,14 +45,7 @@ unsafe impl Send for Handle {}
 impl Drop for Handle {
     fn drop(&mut self) {
         // SAFETY: only the library has written to the handle.
-        unsafe { jdoc_close(&mut self.parts) }
-    }
-}
-
-fn closed() -> Parts {
-    Parts {
-        held: std::ptr::null_mut(),
-        is_open: false,
+        unsafe { jdoc_close(&mut *self.parts) }
     }
 }
 
@@ -68,38 +61,52 @@ fn checked(status: u32) -> Result<(), Error> {
 }
 
 impl Handle {
+    pub fn closed() -> Handle {
+        Handle {
+            parts: Box::new(Parts {
+                held: std::ptr::null_mut(),
+                is_open: false,
+            }),
+        }
+    }
+
+    /// For a function that opens it.
+    pub fn parts(&mut self) -> &mut Parts {
+        &mut self.parts
+    }
+
     pub fn open(number: u32, journal: &[u8]) -> Result<(Handle, usize), Error> {
-        let mut parts = closed();
+        let mut document = Handle::closed();
         let mut taken = 0;
         // SAFETY: the handle is closed, and the pointer and the length are those of one slice.
         checked(unsafe {
             jdoc_open(
-                &mut parts,
+                document.parts(),
                 number,
                 journal.as_ptr(),
                 journal.len(),
                 &mut taken,
             )
         })?;
-        Ok((Handle { parts }, taken))
+        Ok((document, taken))
     }
 
     pub fn reader(&mut self, room: usize) -> Result<Handle, Error> {
-        let mut parts = closed();
+        let mut reader = Handle::closed();
         // SAFETY: this handle is open, and the other one is closed.
-        checked(unsafe { jdoc_reader(&mut self.parts, &mut parts, room) })?;
-        Ok(Handle { parts })
+        checked(unsafe { jdoc_reader(&mut *self.parts, reader.parts(), room) })?;
+        Ok(reader)
     }
 
     pub fn call(&mut self, line: &str) -> Result<String, Error> {
         // SAFETY: the pointer and the length are those of one slice, which isn't null.
-        checked(unsafe { jdoc_call(&mut self.parts, line.as_ptr(), line.len()) })?;
+        checked(unsafe { jdoc_call(&mut *self.parts, line.as_ptr(), line.len()) })?;
         self.reply()
     }
 
     pub fn ask(&mut self, line: &str) -> Result<String, Error> {
         // SAFETY: as in `call`.
-        checked(unsafe { jdoc_ask(&mut self.parts, line.as_ptr(), line.len()) })?;
+        checked(unsafe { jdoc_ask(&mut *self.parts, line.as_ptr(), line.len()) })?;
         self.reply()
     }
 
@@ -116,18 +123,18 @@ impl Handle {
 
     pub fn lines_stored(&mut self) -> Result<(), Error> {
         // SAFETY: the handle is open.
-        checked(unsafe { jdoc_lines_stored(&mut self.parts) })
+        checked(unsafe { jdoc_lines_stored(&mut *self.parts) })
     }
 
     pub fn feed(&mut self) -> Result<(), Error> {
         // SAFETY: the handle is open.
-        checked(unsafe { jdoc_feed(&mut self.parts) })
+        checked(unsafe { jdoc_feed(&mut *self.parts) })
     }
 
     pub fn follow(&mut self) -> Result<usize, Error> {
         let mut length = 0;
         // SAFETY: the handle is open.
-        checked(unsafe { jdoc_follow(&mut self.parts, &mut length) })?;
+        checked(unsafe { jdoc_follow(&mut *self.parts, &mut length) })?;
         Ok(length)
     }
 
@@ -138,7 +145,7 @@ impl Handle {
         // SAFETY: the handle is open, and the pointer and the length are those of one slice.
         let mut status = unsafe {
             copy(
-                &mut self.parts,
+                &mut *self.parts,
                 bytes.as_mut_ptr(),
                 bytes.len(),
                 &mut length,
@@ -149,7 +156,7 @@ impl Handle {
             // SAFETY: as above.
             status = unsafe {
                 copy(
-                    &mut self.parts,
+                    &mut *self.parts,
                     bytes.as_mut_ptr(),
                     bytes.len(),
                     &mut length,

@@ -11,8 +11,11 @@
 //! assert_eq!(document.get("[]")?, r#"{"title":"Shopping"}"#);
 //! # Ok::<(), jdoc::Error>(())
 //! ```
+//!
+//! [`Document::open`] keeps a document in a file: what a call wrote or received is saved when it returns.
 
 mod c;
+mod file;
 mod questions;
 mod quoting;
 mod replies;
@@ -23,9 +26,11 @@ use quoting::{bundle_text, quoted};
 pub use replies::{Id, Status};
 use replies::{id_of, rest_of, status_of};
 use std::fmt;
+use std::path::Path;
 
 /// Why a call failed.
 #[derive(Debug, Clone, Copy, PartialEq, Eq)]
+#[non_exhaustive]
 pub enum Error {
     /// An allocation failed. What a request writes or receives may be in the document all the same: ask `status`.
     NoMemory,
@@ -35,6 +40,35 @@ pub enum Error {
     BadNumber,
     /// A line of the journal, or an operation that came to a reader, doesn't fit.
     Unfit,
+    /// What was asked for is in the document, but couldn't be saved. Don't ask for it again: [`Document::save`], the next write and
+    /// [`Document::close`] save it too.
+    Unsaved,
+    /// A sync or a cut of the file failed, so it isn't known what it has; what was asked for may be lost. All calls fail from now on: open
+    /// the file again, which has all that was called saved.
+    Lost,
+    /// The file was moved, deleted, replaced or changed by others while it was open, so what was asked for isn't in the file of that name.
+    /// All calls fail from now on.
+    Gone,
+    /// The document was opened in another process. A forked process has nothing of it.
+    OtherProcess,
+    /// The file is open elsewhere, in this program or in another one.
+    Locked,
+    /// There is no such folder.
+    NotFound,
+    /// The file, or its folder, may not be read or written.
+    NoAccess,
+    /// The path is that of a folder, a pipe or a device.
+    NotRegular,
+    /// The file is larger than any document's.
+    TooLarge,
+    /// A line of the file, counted from 1, doesn't fit: it was changed, or isn't a document's. It is as it was.
+    Damaged { line: u64 },
+    /// The file is of this number, and not of the one that was given.
+    WrongNumber { number: u32 },
+    /// The path has a zero byte.
+    BadPath,
+    /// A call of the system failed when the file was opened.
+    System { errno: i32 },
     /// The reply isn't of the form that was expected, which is a fault of this crate.
     BadReply,
 }
@@ -46,6 +80,21 @@ impl fmt::Display for Error {
             Error::Refused(code) => write!(f, "E{code}"),
             Error::BadNumber => f.write_str("the number isn't the journal's, or is 0"),
             Error::Unfit => f.write_str("a line of the journal doesn't fit"),
+            Error::Unsaved => f.write_str("it is in the document, but couldn't be saved"),
+            Error::Lost => f.write_str("a sync failed, so nobody knows what the file has"),
+            Error::Gone => {
+                f.write_str("the file was moved, deleted, replaced or changed by others")
+            }
+            Error::OtherProcess => f.write_str("the document was opened in another process"),
+            Error::Locked => f.write_str("the file is open elsewhere"),
+            Error::NotFound => f.write_str("there is no such folder"),
+            Error::NoAccess => f.write_str("the file or its folder may not be read or written"),
+            Error::NotRegular => f.write_str("it is no regular file"),
+            Error::TooLarge => f.write_str("the file is larger than any document's"),
+            Error::Damaged { line } => write!(f, "line {line} of the file doesn't fit"),
+            Error::WrongNumber { number } => write!(f, "the file is of number {number}"),
+            Error::BadPath => f.write_str("the path has a zero byte"),
+            Error::System { errno } => std::io::Error::from_raw_os_error(*errno).fmt(f),
             Error::BadReply => f.write_str("the reply is of another form"),
         }
     }
@@ -60,7 +109,14 @@ impl std::error::Error for Error {}
 /// shared(jdoc::Document::new(1).unwrap());
 /// ```
 pub struct Document {
-    handle: c::Handle,
+    place: Place,
+}
+
+/// Where a document is kept.
+enum Place {
+    /// By the program, which takes its lines.
+    Memory(c::Handle),
+    File(file::File),
 }
 
 /// What a peer lacked.
@@ -75,22 +131,58 @@ pub struct Bundle {
 }
 
 impl Document {
-    /// A new document of the device with this number, which no other device of the document has.
+    /// The document in the file of this path, which is created if it doesn't exist. What a call wrote or received is saved when it returns:
+    /// appended to the file and synced. The number is the file's, or a random one if this device hasn't written there.
+    pub fn open(path: impl AsRef<Path>) -> Result<Document, Error> {
+        Document::open_numbered(path.as_ref(), 0)
+    }
+
+    /// The same, as the device with this number, which no other device of the document has.
+    pub fn open_as(path: impl AsRef<Path>, number: u32) -> Result<Document, Error> {
+        if number == 0 {
+            return Err(Error::BadNumber);
+        }
+        Document::open_numbered(path.as_ref(), number)
+    }
+
+    fn open_numbered(path: &Path, number: u32) -> Result<Document, Error> {
+        file::File::open(path, number).map(|file| Document {
+            place: Place::File(file),
+        })
+    }
+
+    /// Closes the document. One that is dropped is closed too.
+    ///
+    /// # Errors
+    /// `Unsaved`, `Lost` or `Gone` if something wasn't saved, and is lost now.
+    pub fn close(self) -> Result<(), Error> {
+        match self.place {
+            Place::Memory(_) => Ok(()),
+            Place::File(file) => file.close(),
+        }
+    }
+
+    /// A new document of the device with this number, which no other device of the document has. It is in memory, and its lines are yours to
+    /// store.
     pub fn new(number: u32) -> Result<Document, Error> {
-        Document::open(number, b"").map(|(document, _)| document)
+        Document::resume(number, b"").map(|(document, _)| document)
     }
 
     /// A document that resumes from the lines of its journal, and how many bytes of it were taken: what is after them was being written
     /// when the power went, and has to be cut off. The number may be 0 if the journal has an entry of its own.
-    pub fn open(number: u32, journal: &[u8]) -> Result<(Document, usize), Error> {
+    pub fn resume(number: u32, journal: &[u8]) -> Result<(Document, usize), Error> {
         let (handle, taken) = c::Handle::open(number, journal)?;
-        Ok((Document { handle }, taken))
+        let place = Place::Memory(handle);
+        Ok((Document { place }, taken))
     }
 
-    /// The reply to a request, both without their line feeds. What it says was made, received or saved is in [`lines`](Self::lines): store
-    /// those before the reply is used.
+    /// The reply to a request, both without their line feeds. What it says was made, received or saved is in the file; of a document that is
+    /// in memory it is in [`lines`](Self::lines): store those before the reply is used.
     pub fn request(&mut self, line: &str) -> Result<String, Error> {
-        self.handle.call(line)
+        match &mut self.place {
+            Place::Memory(handle) => handle.call(line),
+            Place::File(file) => file.call(line),
+        }
     }
 
     /// Writes a value over everything at the element: a number, a text, `true`, `false`, `null`, or `[]` or `{}`, which is then filled by
@@ -124,26 +216,42 @@ impl Document {
         status_of(&self.request(r#"["status"]"#)?)
     }
 
-    /// The lines of the journal that came since [`stored`](Self::stored).
+    /// Saves what isn't saved, after `Unsaved`.
+    pub fn save(&mut self) -> Result<(), Error> {
+        rest_of(&self.request(r#"["save"]"#)?, "saved").map(|_| ())
+    }
+
+    /// The lines of the journal that came since [`stored`](Self::stored). There are none if the document is in a file, which has them.
     pub fn lines(&mut self) -> Result<Vec<u8>, Error> {
-        self.handle.lines()
+        match &mut self.place {
+            Place::Memory(handle) => handle.lines(),
+            Place::File(_) => Ok(Vec::new()),
+        }
     }
 
     /// Calls the lines that `lines` gave last stored.
     pub fn stored(&mut self) -> Result<(), Error> {
-        self.handle.lines_stored()
+        match &mut self.place {
+            Place::Memory(handle) => handle.lines_stored(),
+            Place::File(_) => Ok(()),
+        }
     }
 
     /// A reader for another thread, with room for `room` operations on their way to it, at least one.
     pub fn reader(&mut self, room: usize) -> Result<Reader, Error> {
-        Ok(Reader {
-            handle: self.handle.reader(room)?,
-        })
+        let handle = match &mut self.place {
+            Place::Memory(handle) => handle.reader(room)?,
+            Place::File(file) => file.reader(room)?,
+        };
+        Ok(Reader { handle })
     }
 
     /// Sends the readers what they have room for, as each request does.
     pub fn feed(&mut self) -> Result<(), Error> {
-        self.handle.feed()
+        match &mut self.place {
+            Place::Memory(handle) => handle.feed(),
+            Place::File(file) => file.feed(),
+        }
     }
 
     /// The line that tells a peer what is known here.

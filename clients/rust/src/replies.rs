@@ -28,9 +28,8 @@ pub fn rest_of<'a>(reply: &'a str, word: &str) -> Result<&'a str, Error> {
     if let Some(rest) = behind(word) {
         return Ok(rest);
     }
-    // Only a failed allocation keeps a document in memory from saving.
     if behind("unsaved").is_some() {
-        return Err(Error::NoMemory);
+        return Err(Error::Unsaved);
     }
     let code = behind("refused").ok_or(Error::BadReply)?;
     match code
@@ -108,7 +107,7 @@ mod tests {
         assert_eq!(id_of(r#"["refused","E3",5]"#), Err(Error::Refused(3)));
         assert_eq!(id_of(r#"["refused","E22"]"#), Err(Error::Refused(22)));
         assert_eq!(id_of(r#"["refused","E1",5]"#), Err(Error::NoMemory));
-        assert_eq!(id_of(r#"["unsaved",5,4]"#), Err(Error::NoMemory));
+        assert_eq!(id_of(r#"["unsaved",5,4]"#), Err(Error::Unsaved));
         assert_eq!(id_of(r#"["saved",5]"#), Err(Error::BadReply));
     }
 }

@@ -16,7 +16,7 @@ fn a_document_goes_on_from_its_lines() -> Result<(), Error> {
     let whole = journal.len();
     journal.extend(b"[\"own\",[3");
 
-    let (mut again, taken) = Document::open(0, &journal)?;
+    let (mut again, taken) = Document::resume(0, &journal)?;
     assert_eq!(taken, whole);
     assert_eq!(again.get("[]")?, r#"{"a":1,"b":2}"#);
     assert_eq!(
@@ -43,10 +43,10 @@ fn what_is_no_journal_of_this_number_is_not_opened() -> Result<(), Error> {
     let mut document = Document::new(7)?;
     document.set(r#"["a"]"#, "1")?;
     let journal = document.lines()?;
-    assert_eq!(Document::open(8, &journal).err(), Some(Error::BadNumber));
-    assert_eq!(Document::open(0, b"").err(), Some(Error::BadNumber));
+    assert_eq!(Document::resume(8, &journal).err(), Some(Error::BadNumber));
+    assert_eq!(Document::resume(0, b"").err(), Some(Error::BadNumber));
     assert_eq!(
-        Document::open(7, b"[\"own\",[2,7],[\"delete\",[]]]\n").err(),
+        Document::resume(7, b"[\"own\",[2,7],[\"delete\",[]]]\n").err(),
         Some(Error::Unfit)
     );
     Ok(())
