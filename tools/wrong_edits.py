@@ -228,7 +228,7 @@ def check(texts: Texts, crate: str, words: list[str]) -> tuple[int, str]:
 
 @functools.cache
 def sum_of(crate: str) -> str:
-    """A sum of all that a check of the crate reads: this tool, the toolchain, the crate's files, and the libraries below as they were built."""
+    """A sum of all that a check of the crate reads: this tool, the toolchain, the crate's files, and the libraries below as built."""
     made = hashlib.sha256()
     for part in [kit_sum(), line_of(crate), Path(__file__).read_text(encoding="utf-8")]:
         made.update(part.encode() + b"\0")

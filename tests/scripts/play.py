@@ -15,6 +15,7 @@ In a .session file, which has scripts, and a .serve file, which has talks with `
                     document that is served says one line before any request
     ! LINE          a line of standard error; `! ..` as the last stands for one or more lines
     = N             the status, if it isn't 0
+    ^ LINE          a line that FILE is given before the run
     | LINE          a line that FILE has after the run
     ~ LINE          cut after each of its bytes, the same input has the same replies to whole lines, and this one to a line that is cut
 
@@ -82,6 +83,8 @@ class Run:
     expected: Said = field(default_factory=Said)
     # Whether standard error goes on behind what is expected.
     has_more_errors: bool = False
+    # What the file has before the run, if that isn't what the run before left.
+    given: Optional[bytes] = None
     # The reply to a line that is cut.
     if_cut: Optional[bytes] = None
 
@@ -158,6 +161,8 @@ def add_line(run: Run, line: Line) -> None:
         said.errors += text
     elif line.mark == "=":
         said.status = int(line.text)
+    elif line.mark == "^":
+        run.given = (run.given or b"") + text
     elif line.mark == "|":
         said.kept = (said.kept or b"") + text
     elif line.mark == "~":
@@ -224,8 +229,10 @@ def all_runs() -> Iterator[list[Run]]:
 
 def played(program: Path, run: Run, folder: Path) -> Said:
     """What comes of a run in a folder."""
-    done = subprocess.run([program, *run.words], input=run.input, cwd=folder, capture_output=True, timeout=100, check=False)
     file = folder / "FILE"
+    if run.given is not None:
+        file.write_bytes(run.given)
+    done = subprocess.run([program, *run.words], input=run.input, cwd=folder, capture_output=True, timeout=100, check=False)
     kept = None if run.expected.kept is None else file.read_bytes() if file.exists() else b""
     return Said(done.stdout, done.stderr, done.returncode, kept)
 
