@@ -3,7 +3,6 @@
 use chunks::Chunks;
 use std::alloc::Global;
 use std::process::Abort;
-use std::test::Fail;
 
 /// How many numbers come, and how far each goes behind the one before it, wrapping at the end.
 type Row = (usize, usize);
@@ -13,29 +12,28 @@ const MOST: usize = 10_000;
 
 /// Puts a number at a position of both.
 fn put(
+    rt: &impl Abort,
     numbers: &mut Chunks<usize>,
     beside: &mut Vec<usize>,
     position: usize,
     number: usize,
-) -> Result<(), Fail> {
-    numbers.reserve_one()?;
+) {
+    numbers.reserve_one().expect(rt, "memory");
     if position > numbers.len() || position > beside.len() || numbers.len() > MOST {
-        return Err("no such position".into());
+        panic!(rt; "no such position");
     }
     numbers.insert(position, number);
-    beside.insert(position, number)?;
-    Ok(())
+    beside.insert(position, number).expect(rt, "memory");
 }
 
 /// Puts the numbers of a row into both.
-fn fill(numbers: &mut Chunks<usize>, beside: &mut Vec<usize>, row: &Row) -> Result<(), Fail> {
+fn fill(rt: &impl Abort, numbers: &mut Chunks<usize>, beside: &mut Vec<usize>, row: &Row) {
     let (count, step) = *row;
     let mut position: usize = 0;
     for number in 0..count {
         position = position.wrapping_add(step) % (number + 1);
-        put(numbers, beside, position, number)?;
+        put(rt, numbers, beside, position, number);
     }
-    Ok(())
 }
 
 /// Compares the items one by one, each alone and through a reader.
@@ -49,17 +47,16 @@ fn assert_items(rt: &impl Abort, numbers: &Chunks<usize>, want: &[usize]) {
 }
 
 /// Compares a list with the vector that took the same.
-fn assert_same(rt: &impl Abort, alloc: Global, row: &Row) -> Result<(), Fail> {
+fn assert_same(rt: &impl Abort, alloc: Global, row: &Row) {
     let mut numbers = Chunks::new(alloc);
     let mut want = Vec::new(alloc);
-    fill(&mut numbers, &mut want, row)?;
+    fill(rt, &mut numbers, &mut want, row);
     assert_items(rt, &numbers, want.as_slice());
-    Ok(())
 }
 
 /// At the end, at the front, and in between: up to one chunk, one more, and many.
 #[test]
-fn chunks_are_the_list_of_all_inserts(rt: HostRuntime) -> Result<(), Fail> {
+fn chunks_are_the_list_of_all_inserts(rt: HostRuntime) {
     for row in [
         (0, 1),
         (1, 1),
@@ -72,7 +69,6 @@ fn chunks_are_the_list_of_all_inserts(rt: HostRuntime) -> Result<(), Fail> {
         (5000, 7),
         (5000, 1999),
     ] {
-        assert_same(&rt, rt.alloc(), &row)?;
+        assert_same(&rt, rt.alloc(), &row);
     }
-    Ok(())
 }

@@ -7,7 +7,6 @@ mod room;
 use ids::Refusal;
 use operation::Delivered;
 use playing::{Turn, Writes, on_new};
-use std::test::Fail;
 
 const MAP: Option<Writes> = Some(Writes::Map);
 
@@ -23,7 +22,7 @@ const FIRST_OF_2: Turn = Turn::Put((1, 2), [0, 0, 0], Writes::Map, KEPT);
 const FIRST_OF_3: Turn = Turn::Put((1, 3), [0, 0, 0], Writes::Map, KEPT);
 
 #[test]
-fn new_inboxes_are_empty(rt: HostRuntime) -> Result<(), Fail> {
+fn new_inboxes_are_empty(rt: HostRuntime) {
     const TURNS: &[Turn] = &[
         Turn::Len(0),
         Turn::Has((1, 2), false),

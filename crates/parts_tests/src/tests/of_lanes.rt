@@ -5,7 +5,6 @@ ghost use Rattle.std.specs.Prelude.{◌≡◌, length};
 use lanes::{all_eq, all_le, count_over, greatest, is_set, mask_over, max_into};
 use std::alloc::Global;
 use std::process::Abort;
-use std::test::Fail;
 
 const WIDTHS: [usize; 9] = [0, 1, 7, 8, 9, 63, 64, 65, 256];
 
@@ -28,23 +27,23 @@ fn number(state: u64) -> u64 {
 }
 
 /// This many numbers, near 0 or near the greatest one. Equal seeds give equal numbers.
-fn numbers(alloc: Global, width: usize, seed: u64) -> Result<Vec<u64>, Fail> {
+fn numbers(rt: &impl Abort, alloc: Global, width: usize, seed: u64) -> Vec<u64> {
     let mut numbers = Vec::new(alloc);
     let mut state = seed;
     for _ in 0..width {
         state = next(state);
-        numbers.push(number(state))?;
+        numbers.push(number(state)).expect(rt, "memory");
     }
-    Ok(numbers)
+    numbers
 }
 
 /// This many zeros, except for a 1 at the end.
-fn one_at_end(alloc: Global, width: usize) -> Result<Vec<u64>, Fail> {
+fn one_at_end(rt: &impl Abort, alloc: Global, width: usize) -> Vec<u64> {
     let mut numbers = Vec::new(alloc);
     for index in 1..=width {
-        numbers.push(u64::from(index == width))?;
+        numbers.push(u64::from(index == width)).expect(rt, "memory");
     }
-    Ok(numbers)
+    numbers
 }
 
 /// What the kernels answer.
@@ -87,14 +86,13 @@ fn assert_last(rt: &impl Abort, one: &[u64], zeros: &[u64])
 }
 
 #[test]
-fn the_last_number_counts(rt: HostRuntime) -> Result<(), Fail> {
+fn the_last_number_counts(rt: HostRuntime) {
     for width in WIDTHS {
-        let zeros = vec![in rt.alloc(); 0; width]?;
-        let one = one_at_end(rt.alloc(), width)?;
+        let zeros = vec![in rt.alloc(); 0; width].expect(&rt, "memory");
+        let one = one_at_end(&rt, rt.alloc(), width);
         assert!(rt; one.len() == zeros.len());
         assert_last(&rt, &one, &zeros);
     }
-    Ok(())
 }
 
 /// Asserts the answers about two columns whose last counters are `a` and `b`, and whose first counter is `b`.
@@ -177,53 +175,52 @@ fn assert_rest(rt: &impl Abort, counters: &[u64], mask: &[u64]) {
 }
 
 /// Asserts a mask that overwrites words whose bits were all 1.
-fn assert_mask(rt: &impl Abort, alloc: Global, a: &[u64], b: &[u64]) -> Result<(), Fail>
+fn assert_mask(rt: &impl Abort, alloc: Global, a: &[u64], b: &[u64])
     requires { length a.now ≡ length b.now }
 {
-    let mut mask = vec![in alloc; u64::MAX; a.len().div_ceil(64)]?;
+    let mut mask = vec![in alloc; u64::MAX; a.len().div_ceil(64)].expect(rt, "memory");
     assert!(rt; mask.len() == a.len().div_ceil(64));
     mask_over(a, b, &mut mask);
     assert_bits(rt, a, b, &mask);
     assert_rest(rt, a, &mask);
-    Ok(())
 }
 
 /// The greater of each pair of counters.
-fn greater(alloc: Global, a: &[u64], b: &[u64]) -> Result<Vec<u64>, Fail> {
+fn greater(rt: &impl Abort, alloc: Global, a: &[u64], b: &[u64]) -> Vec<u64> {
     let mut greater = Vec::new(alloc);
     for (x, y) in a.iter().zip(b) {
-        greater.push(if *x < *y { *y } else { *x })?;
+        greater
+            .push(if *x < *y { *y } else { *x })
+            .expect(rt, "memory");
     }
-    Ok(greater)
+    greater
 }
 
 /// Asserts what a column is raised to.
-fn assert_greater(rt: &impl Abort, alloc: Global, a: &[u64], b: &[u64]) -> Result<(), Fail>
+fn assert_greater(rt: &impl Abort, alloc: Global, a: &[u64], b: &[u64])
     requires { length a.now ≡ length b.now }
 {
-    let want = greater(alloc, a, b)?;
-    let mut raised = a.to_vec(alloc)?;
+    let want = greater(rt, alloc, a, b);
+    let mut raised = a.to_vec(alloc).expect(rt, "memory");
     max_into(&mut raised, b);
     assert_eq!(rt; raised, want, "{} wide", a.len());
-    Ok(())
 }
 
 /// Asserts that the kernels answer and write what plain loops do, on columns of numbers from equal or different seeds.
-fn assert_agree(rt: &impl Abort, alloc: Global, width: usize, seed: u64) -> Result<(), Fail> {
-    let a = numbers(alloc, width, seed)?;
-    let b = numbers(alloc, width, seed / 2)?;
+fn assert_agree(rt: &impl Abort, alloc: Global, width: usize, seed: u64) {
+    let a = numbers(rt, alloc, width, seed);
+    let b = numbers(rt, alloc, width, seed / 2);
     assert!(rt; a.len() == b.len());
     assert_eq!(rt; said(&a, &b), said_plainly(&a, &b), "{width} wide");
-    assert_mask(rt, alloc, &a, &b)?;
+    assert_mask(rt, alloc, &a, &b);
     assert_greater(rt, alloc, &a, &b)
 }
 
 #[test]
-fn kernels_agree_with_plain_loops(rt: HostRuntime) -> Result<(), Fail> {
+fn kernels_agree_with_plain_loops(rt: HostRuntime) {
     for width in WIDTHS {
         for seed in 0..3 {
-            assert_agree(&rt, rt.alloc(), width, seed)?;
+            assert_agree(&rt, rt.alloc(), width, seed);
         }
     }
-    Ok(())
 }

@@ -8,7 +8,6 @@ use ids::Refusal;
 use operation::{Command, Entry, Mutation, Op, Shared, check_alone};
 use std::alloc::Global;
 use std::process::Abort;
-use std::test::Fail;
 use value::{Key, Scalar, Text, Val};
 
 /// The place of an operation of a test. A field is the root's with the key `a`; an item has this counter and replica.
@@ -29,29 +28,29 @@ enum Does {
 }
 
 /// The field of the root with the key `a`.
-fn field(alloc: Global) -> Result<Place, Refusal> {
-    fixtures::field(alloc, "a")
+fn field(rt: &impl Abort, alloc: Global) -> Place {
+    fixtures::field(alloc, "a").expect(rt, "a place")
 }
 
 /// The item with this id of the list at that field.
-fn item(alloc: Global, pair: Pair) -> Result<Place, Refusal> {
-    let id = id_of(pair)?;
-    let field = field(alloc)?;
-    field.item(alloc, id)
+fn item(rt: &impl Abort, alloc: Global, pair: Pair) -> Place {
+    let id = id_of(pair).expect(rt, "an id");
+    let field = field(rt, alloc);
+    field.item(alloc, id).expect(rt, "a place")
 }
 
 /// The head of that list.
-fn head(alloc: Global) -> Result<Place, Refusal> {
-    let field = field(alloc)?;
-    field.head(alloc)
+fn head(rt: &impl Abort, alloc: Global) -> Place {
+    let field = field(rt, alloc);
+    field.head(alloc).expect(rt, "a place")
 }
 
-fn place(alloc: Global, at: At) -> Result<Place, Refusal> {
+fn place(rt: &impl Abort, alloc: Global, at: At) -> Place {
     match at {
-        Root => Ok(Place::doc(alloc)),
-        Field => field(alloc),
-        HeadOfField => head(alloc),
-        ItemOfField(counter, replica) => item(alloc, (counter, replica)),
+        Root => Place::doc(alloc),
+        Field => field(rt, alloc),
+        HeadOfField => head(rt, alloc),
+        ItemOfField(counter, replica) => item(rt, alloc, (counter, replica)),
     }
 }
 
@@ -63,16 +62,16 @@ fn mutation(does: Does) -> Mutation {
     }
 }
 
-fn op(alloc: Global, pair: Pair, counters: &[u64], at: At, does: Does) -> Result<Op, Refusal> {
-    let id = id_of(pair)?;
-    let deps = counted(alloc, counters)?;
-    let place = place(alloc, at)?;
-    Ok(Op {
+fn op(rt: &impl Abort, alloc: Global, pair: Pair, counters: &[u64], at: At, does: Does) -> Op {
+    let id = id_of(pair).expect(rt, "an id");
+    let deps = counted(alloc, counters).expect(rt, "a vector");
+    let place = place(rt, alloc, at);
+    Op {
         id,
         deps,
         place,
         mutation: mutation(does),
-    })
+    }
 }
 
 /// An operation's id, the counters of its vector, where it stands, what it does, and what `check_alone` answers.
@@ -175,129 +174,118 @@ fn is_answered(rt: &impl Abort, op: &Op, want: Result<(), Refusal>) {
 }
 
 /// Asserts what `check_alone` answers about the operation of a row and about its copy.
-fn both_are_answered(rt: &impl Abort, alloc: Global, row: &Row) -> Result<(), Refusal> {
+fn both_are_answered(rt: &impl Abort, alloc: Global, row: &Row) {
     let (pair, counters, at, does, want) = *row;
-    let op = op(alloc, pair, counters, at, does)?;
+    let op = op(rt, alloc, pair, counters, at, does);
     is_answered(rt, &op, want);
-    let copy = op.clone()?;
+    let copy = op.clone().expect(rt, "memory");
     is_answered(rt, &copy, want);
-    Ok(())
 }
 
 /// Asserts the answers of these rows.
-fn are_answered(rt: &impl Abort, alloc: Global, rows: &[Row]) -> Result<(), Fail> {
+fn are_answered(rt: &impl Abort, alloc: Global, rows: &[Row]) {
     for row in rows {
-        both_are_answered(rt, alloc, row)?;
+        both_are_answered(rt, alloc, row);
     }
-    Ok(())
 }
 
 #[test]
-fn counters_follow_vectors(rt: HostRuntime) -> Result<(), Fail> {
+fn counters_follow_vectors(rt: HostRuntime) {
     are_answered(&rt, rt.alloc(), COUNTERS)
 }
 
 #[test]
-fn any_replica_may_be_named(rt: HostRuntime) -> Result<(), Fail> {
+fn any_replica_may_be_named(rt: HostRuntime) {
     are_answered(&rt, rt.alloc(), ANY_REPLICA)
 }
 
 #[test]
-fn places_are_for_what_is_done(rt: HostRuntime) -> Result<(), Fail> {
+fn places_are_for_what_is_done(rt: HostRuntime) {
     are_answered(&rt, rt.alloc(), PLACES)
 }
 
 /// The second item of the list at the key `shopping`.
-fn second_item(alloc: Global) -> Result<Expr, Refusal> {
-    let key = Key::new(alloc, "shopping")?;
-    let steps = vec![in alloc; Step::Get(key), Step::Idx(2)]?;
-    Ok(Expr::new(steps))
+fn second_item(rt: &impl Abort, alloc: Global) -> Expr {
+    let key = Key::new(alloc, "shopping").expect(rt, "a key");
+    let steps = vec![in alloc; Step::Get(key), Step::Idx(2)].expect(rt, "memory");
+    Expr::new(steps)
 }
 
 /// The text milk.
-fn milk(alloc: Global) -> Result<Val, Refusal> {
-    Ok(Val::Scalar(Scalar::Text(Text::new(alloc, "milk")?)))
+fn milk(rt: &impl Abort, alloc: Global) -> Val {
+    Val::Scalar(Scalar::Text(Text::new(alloc, "milk").expect(rt, "a text")))
 }
 
 /// A command at the second item, with the text milk if it writes.
-fn command(alloc: Global, does: Does) -> Result<Command, Refusal> {
-    let at = second_item(alloc)?;
+fn command(rt: &impl Abort, alloc: Global, does: Does) -> Command {
+    let at = second_item(rt, alloc);
     match does {
-        Assign => Ok(Command::Assign(at, milk(alloc)?)),
-        Insert => Ok(Command::InsertAfter(at, milk(alloc)?)),
-        Delete => Ok(Command::Delete(at)),
+        Assign => Command::Assign(at, milk(rt, alloc)),
+        Insert => Command::InsertAfter(at, milk(rt, alloc)),
+        Delete => Command::Delete(at),
     }
 }
 
 /// The mutation that such a command asks for.
-fn asked(alloc: Global, does: Does) -> Result<Mutation, Refusal> {
+fn asked(rt: &impl Abort, alloc: Global, does: Does) -> Mutation {
     match does {
-        Assign => Ok(Mutation::Assign(milk(alloc)?)),
-        Insert => Ok(Mutation::Insert(milk(alloc)?)),
-        Delete => Ok(Mutation::Delete),
+        Assign => Mutation::Assign(milk(rt, alloc)),
+        Insert => Mutation::Insert(milk(rt, alloc)),
+        Delete => Mutation::Delete,
     }
 }
 
 /// Asserts that the command is at the second item.
-fn is_at_second(rt: &impl Abort, alloc: Global, command: &Command) -> Result<(), Refusal> {
-    let at = second_item(alloc)?;
+fn is_at_second(rt: &impl Abort, alloc: Global, command: &Command) {
+    let at = second_item(rt, alloc);
     assert_eq!(rt; command.expression().steps(), at.steps(), "{command:?}");
-    Ok(())
 }
 
 /// Asserts that the command asks for this mutation, at the second item.
-fn has_parts(rt: &impl Abort, alloc: Global, command: &Command, does: Does) -> Result<(), Refusal> {
-    let want = asked(alloc, does)?;
-    let mutation = command.mutation()?;
+fn has_parts(rt: &impl Abort, alloc: Global, command: &Command, does: Does) {
+    let want = asked(rt, alloc, does);
+    let mutation = command.mutation().expect(rt, "not refused");
     assert_eq!(rt; mutation, want, "{command:?}");
     is_at_second(rt, alloc, command)
 }
 
 /// Asserts that a copy of the command asks for this mutation, at the second item.
-fn copy_has_parts(
-    rt: &impl Abort,
-    alloc: Global,
-    command: &Command,
-    does: Does,
-) -> Result<(), Refusal> {
-    let copy = command.clone()?;
+fn copy_has_parts(rt: &impl Abort, alloc: Global, command: &Command, does: Does) {
+    let copy = command.clone().expect(rt, "memory");
     has_parts(rt, alloc, &copy, does)
 }
 
 /// Asserts that such a command and its copy have their parts.
-fn keeps_parts(rt: &impl Abort, alloc: Global, does: Does) -> Result<(), Refusal> {
-    let command = command(alloc, does)?;
-    has_parts(rt, alloc, &command, does)?;
+fn keeps_parts(rt: &impl Abort, alloc: Global, does: Does) {
+    let command = command(rt, alloc, does);
+    has_parts(rt, alloc, &command, does);
     copy_has_parts(rt, alloc, &command, does)
 }
 
 #[test]
-fn commands_keep_their_parts(rt: HostRuntime) -> Result<(), Fail> {
+fn commands_keep_their_parts(rt: HostRuntime) {
     for does in [Assign, Insert, Delete] {
-        keeps_parts(&rt, rt.alloc(), does)?;
+        keeps_parts(&rt, rt.alloc(), does);
     }
-    Ok(())
 }
 
 /// Asserts that such a mutation equals its copy.
-fn is_as_copy(rt: &impl Abort, alloc: Global, does: Does) -> Result<(), Refusal> {
-    let mutation = asked(alloc, does)?;
-    let copy = mutation.clone()?;
+fn is_as_copy(rt: &impl Abort, alloc: Global, does: Does) {
+    let mutation = asked(rt, alloc, does);
+    let copy = mutation.clone().expect(rt, "memory");
     assert_eq!(rt; copy, mutation);
-    Ok(())
 }
 
 #[test]
-fn mutations_are_as_their_copies(rt: HostRuntime) -> Result<(), Fail> {
+fn mutations_are_as_their_copies(rt: HostRuntime) {
     for does in [Assign, Insert, Delete] {
-        is_as_copy(&rt, rt.alloc(), does)?;
+        is_as_copy(&rt, rt.alloc(), does);
     }
-    Ok(())
 }
 
 /// The operation 1@1, which assigns at the root.
-fn first_op(alloc: Global) -> Result<Op, Refusal> {
-    op(alloc, (1, 1), &[0], Root, Assign)
+fn first_op(rt: &impl Abort, alloc: Global) -> Op {
+    op(rt, alloc, (1, 1), &[0], Root, Assign)
 }
 
 /// Whether two operations have the same id, place and mutation.
@@ -306,35 +294,34 @@ fn are_same(op: &Op, other: &Op) -> bool {
 }
 
 /// Asserts that the entry holds the first operation.
-fn has_first(rt: &impl Abort, alloc: Global, entry: &Entry) -> Result<(), Refusal> {
-    let want = first_op(alloc)?;
+fn has_first(rt: &impl Abort, alloc: Global, entry: &Entry) {
+    let want = first_op(rt, alloc);
     assert!(rt; are_same(entry.op(), &want), "{entry:?}");
-    Ok(())
 }
 
 /// Asserts that the entry and its copy hold the first operation.
-fn keeps_first(rt: &impl Abort, alloc: Global, entry: &Entry) -> Result<(), Refusal> {
-    has_first(rt, alloc, entry)?;
-    let copy = entry.clone()?;
+fn keeps_first(rt: &impl Abort, alloc: Global, entry: &Entry) {
+    has_first(rt, alloc, entry);
+    let copy = entry.clone().expect(rt, "memory");
     has_first(rt, alloc, &copy)
 }
 
 #[test]
-fn own_entries_keep_their_operations(rt: HostRuntime) -> Result<(), Fail> {
-    let op = first_op(rt.alloc())?;
+fn own_entries_keep_their_operations(rt: HostRuntime) {
+    let op = first_op(&rt, rt.alloc());
     let command = Command::Assign(Expr::root(rt.alloc()), Val::EmptyMap);
     let own = Entry::Own {
         client: 0,
         serial: 1,
-        command: Shared::new(rt.alloc(), command)?,
-        op: Shared::new(rt.alloc(), op)?,
+        command: Shared::new(rt.alloc(), command).expect(&rt, "memory"),
+        op: Shared::new(rt.alloc(), op).expect(&rt, "memory"),
     };
-    Ok(keeps_first(&rt, rt.alloc(), &own)?)
+    keeps_first(&rt, rt.alloc(), &own)
 }
 
 #[test]
-fn entries_of_peers_keep_their_operations(rt: HostRuntime) -> Result<(), Fail> {
+fn entries_of_peers_keep_their_operations(rt: HostRuntime) {
     let alloc = rt.alloc();
-    let peer = Entry::Peer(Shared::new(alloc, first_op(alloc)?)?);
-    Ok(keeps_first(&rt, alloc, &peer)?)
+    let peer = Entry::Peer(Shared::new(alloc, first_op(&rt, alloc)).expect(&rt, "memory"));
+    keeps_first(&rt, alloc, &peer)
 }

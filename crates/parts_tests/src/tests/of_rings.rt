@@ -3,36 +3,34 @@
 use rings::Rings;
 use std::alloc::Global;
 use std::process::Abort;
-use std::test::Fail;
 
 /// Puts a number at a position of both.
 fn put(
+    rt: &impl Abort,
     numbers: &mut Rings<usize>,
     beside: &mut Vec<usize>,
     position: usize,
     number: usize,
-) -> Result<(), Fail> {
-    numbers.reserve_one()?;
+) {
+    numbers.reserve_one().expect(rt, "memory");
     if position > numbers.len() || position > beside.len() {
-        return Err("no such position".into());
+        panic!(rt; "no such position");
     }
     numbers.insert(position, number);
-    beside.insert(position, number)?;
-    Ok(())
+    beside.insert(position, number).expect(rt, "memory");
 }
 
 /// How many numbers come, and how far each goes behind the one before it, wrapping at the end.
 type Row = (usize, usize);
 
 /// Puts the numbers of a row into both.
-fn fill(numbers: &mut Rings<usize>, beside: &mut Vec<usize>, row: &Row) -> Result<(), Fail> {
+fn fill(rt: &impl Abort, numbers: &mut Rings<usize>, beside: &mut Vec<usize>, row: &Row) {
     let (count, step) = *row;
     let mut position: usize = 0;
     for number in 0..count {
         position = position.wrapping_add(step) % (number + 1);
-        put(numbers, beside, position, number)?;
+        put(rt, numbers, beside, position, number);
     }
-    Ok(())
 }
 
 /// Compares the items one by one.
@@ -62,10 +60,10 @@ fn assert_lengths(rt: &impl Abort, numbers: &Rings<usize>, rows: &[(usize, usize
 }
 
 #[test]
-fn items_are_lent_in_runs(rt: HostRuntime) -> Result<(), Fail> {
+fn items_are_lent_in_runs(rt: HostRuntime) {
     let mut numbers = Rings::new(rt.alloc());
     let mut beside = Vec::new(rt.alloc());
-    fill(&mut numbers, &mut beside, &(4200, 1))?;
+    fill(&rt, &mut numbers, &mut beside, &(4200, 1));
     assert_lengths(
         &rt,
         &numbers,
@@ -80,7 +78,7 @@ fn items_are_lent_in_runs(rt: HostRuntime) -> Result<(), Fail> {
     );
     // Three more at the front: each ring begins three slots before the end of its memory, and wraps around.
     for _ in 0..3 {
-        put_next(&mut numbers, &mut beside, 0)?;
+        put_next(&rt, &mut numbers, &mut beside, 0);
     }
     assert_lengths(
         &rt,
@@ -96,24 +94,22 @@ fn items_are_lent_in_runs(rt: HostRuntime) -> Result<(), Fail> {
         ],
     );
     assert_runs(&rt, &numbers, &beside);
-    Ok(())
 }
 
 /// What a row puts is where the vector has it, also as one slice, and takes one more at its front.
-fn assert_filled(rt: &impl Abort, alloc: Global, row: &Row) -> Result<(), Fail> {
+fn assert_filled(rt: &impl Abort, alloc: Global, row: &Row) {
     let mut numbers = Rings::new(alloc);
     let mut beside = Vec::new(alloc);
-    fill(&mut numbers, &mut beside, row)?;
+    fill(rt, &mut numbers, &mut beside, row);
     assert_items(rt, &numbers, &beside);
     numbers.make_contiguous();
     assert_eq!(rt; numbers.as_slice(), beside.as_slice());
-    put(&mut numbers, &mut beside, 0, 7)?;
+    put(rt, &mut numbers, &mut beside, 0, 7);
     assert_items(rt, &numbers, &beside);
-    Ok(())
 }
 
 #[test]
-fn items_go_where_they_are_put(rt: HostRuntime) -> Result<(), Fail> {
+fn items_go_where_they_are_put(rt: HostRuntime) {
     const ROWS: &[Row] = &[
         (0, 0),
         (1, 0),
@@ -127,43 +123,36 @@ fn items_go_where_they_are_put(rt: HostRuntime) -> Result<(), Fail> {
         (6400, 1_000_003),
     ];
     for row in ROWS {
-        assert_filled(&rt, rt.alloc(), row)?;
+        assert_filled(&rt, rt.alloc(), row);
     }
-    Ok(())
 }
 
 /// Puts a number that is in neither yet at a position of both.
-fn put_next(
-    numbers: &mut Rings<usize>,
-    beside: &mut Vec<usize>,
-    position: usize,
-) -> Result<(), Fail> {
+fn put_next(rt: &impl Abort, numbers: &mut Rings<usize>, beside: &mut Vec<usize>, position: usize) {
     let number = numbers.len();
-    put(numbers, beside, position, number)
+    put(rt, numbers, beside, position, number)
 }
 
 /// Numbers are inserted at the ends and about the middle of two rings, which begin this many slots before the ends of their memory.
-fn assert_halves(rt: &impl Abort, alloc: Global, turns: usize) -> Result<(), Fail> {
+fn assert_halves(rt: &impl Abort, alloc: Global, turns: usize) {
     let mut numbers = Rings::new(alloc);
     let mut beside = Vec::new(alloc);
-    fill(&mut numbers, &mut beside, &(4096, 1))?;
+    fill(rt, &mut numbers, &mut beside, &(4096, 1));
     for _ in 0..turns {
-        put_next(&mut numbers, &mut beside, 0)?;
+        put_next(rt, &mut numbers, &mut beside, 0);
     }
     for position in [1, 0, 1023, 1024, 2047, 2049, 3071, 3072, 4095] {
-        put_next(&mut numbers, &mut beside, position)?;
+        put_next(rt, &mut numbers, &mut beside, position);
         assert_items(rt, &numbers, &beside);
     }
-    Ok(())
 }
 
 #[test]
-fn items_go_into_both_halves_of_a_ring(rt: HostRuntime) -> Result<(), Fail> {
+fn items_go_into_both_halves_of_a_ring(rt: HostRuntime) {
     // What moves ends where the memory ends, or wraps by one item, or by nearly all.
     for turns in [0, 1, 1020, 1021, 1022, 2045, 2046, 2047] {
-        assert_halves(&rt, rt.alloc(), turns)?;
+        assert_halves(&rt, rt.alloc(), turns);
     }
-    Ok(())
 }
 
 /// Swaps two items of both, and overwrites the first of them.
@@ -179,10 +168,10 @@ fn change(rt: &impl Abort, numbers: &mut Rings<usize>, beside: &mut [usize], a: 
 
 /// Two positions of a list of three rings and a half, turned: its items change, those that three doesn't divide stay, and of these the
 /// ones before the second position.
-fn assert_changed(rt: &impl Abort, alloc: Global, a: usize, b: usize) -> Result<(), Fail> {
+fn assert_changed(rt: &impl Abort, alloc: Global, a: usize, b: usize) {
     let mut numbers = Rings::new(alloc);
     let mut beside = Vec::new(alloc);
-    fill(&mut numbers, &mut beside, &(7200, 1_000_003))?;
+    fill(rt, &mut numbers, &mut beside, &(7200, 1_000_003));
     change(rt, &mut numbers, &mut beside, a, b);
     assert_items(rt, &numbers, &beside);
     numbers.retain(|number| number % 3 != 0);
@@ -191,11 +180,10 @@ fn assert_changed(rt: &impl Abort, alloc: Global, a: usize, b: usize) -> Result<
     numbers.truncate(b);
     beside.truncate(b);
     assert_items(rt, &numbers, &beside);
-    Ok(())
 }
 
 #[test]
-fn items_change_and_go(rt: HostRuntime) -> Result<(), Fail> {
+fn items_change_and_go(rt: HostRuntime) {
     for (a, b) in [
         (0, 0),
         (0, 2047),
@@ -204,28 +192,26 @@ fn items_change_and_go(rt: HostRuntime) -> Result<(), Fail> {
         (7199, 6400),
         (3, 7199),
     ] {
-        assert_changed(&rt, rt.alloc(), a, b)?;
+        assert_changed(&rt, rt.alloc(), a, b);
     }
-    Ok(())
 }
 
 /// The item at each of these positions is removed from both, one after another.
-fn assert_removed(rt: &impl Abort, alloc: Global, positions: &[usize]) -> Result<(), Fail> {
+fn assert_removed(rt: &impl Abort, alloc: Global, positions: &[usize]) {
     let mut numbers = Rings::new(alloc);
     let mut beside = Vec::new(alloc);
-    fill(&mut numbers, &mut beside, &(4098, 1_000_003))?;
+    fill(rt, &mut numbers, &mut beside, &(4098, 1_000_003));
     for position in positions {
         assert!(rt; *position < numbers.len() && *position < beside.len());
         assert_eq!(rt; numbers.remove(*position), beside.remove(*position));
         assert_items(rt, &numbers, &beside);
     }
-    put(&mut numbers, &mut beside, 2400, 7)?;
+    put(rt, &mut numbers, &mut beside, 2400, 7);
     assert_items(rt, &numbers, &beside);
-    Ok(())
 }
 
 #[test]
-fn items_are_removed(rt: HostRuntime) -> Result<(), Fail> {
+fn items_are_removed(rt: HostRuntime) {
     // The last ring closes again once it isn't whole.
     assert_removed(&rt, rt.alloc(), &[4097, 0, 2048, 0])
 }

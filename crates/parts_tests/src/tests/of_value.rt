@@ -5,7 +5,6 @@ use serde_json::Value;
 use std::alloc::{AllocError, Global};
 use std::cmp::Ordering;
 use std::process::Abort;
-use std::test::Fail;
 use value::{Key, Scalar, Text, Val};
 
 fn repeated(alloc: Global, letter: &str, times: usize) -> Result<String, AllocError> {
@@ -46,44 +45,36 @@ fn keys_have_at_most_256_bytes(rt: HostRuntime) {
 
 /// How two keys compare, by each method.
 fn compared(
+    rt: &impl Abort,
     alloc: Global,
     a: &str,
     b: &str,
-) -> Result<(Ordering, Option<Ordering>, bool), Refusal> {
-    let key = Key::new(alloc, a)?;
-    let other = Key::new(alloc, b)?;
-    Ok((key.cmp(&other), key.partial_cmp(&other), key == other))
+) -> (Ordering, Option<Ordering>, bool) {
+    let key = Key::new(alloc, a).expect(rt, "a key");
+    let other = Key::new(alloc, b).expect(rt, "a key");
+    (key.cmp(&other), key.partial_cmp(&other), key == other)
 }
 
 const RISING: &[&str] = &["", "Z", "a", "a0", "aa", "b", "z", "é"];
 
 /// Asserts how two keys compare.
-fn assert_compared(
-    rt: &impl Abort,
-    alloc: Global,
-    a: &str,
-    b: &str,
-    want: Ordering,
-) -> Result<(), Fail> {
+fn assert_compared(rt: &impl Abort, alloc: Global, a: &str, b: &str, want: Ordering) {
     let wanted = (want, Some(want), want == Ordering::Equal);
-    assert_eq!(rt; compared(alloc, a, b)?, wanted, "{a} and {b}");
-    Ok(())
+    assert_eq!(rt; compared(rt, alloc, a, b), wanted, "{a} and {b}");
 }
 
 /// Asserts how the key at an index compares with each one.
-fn assert_index(rt: &impl Abort, alloc: Global, index: usize, key: &str) -> Result<(), Fail> {
+fn assert_index(rt: &impl Abort, alloc: Global, index: usize, key: &str) {
     for (other, text) in RISING.iter().enumerate() {
-        assert_compared(rt, alloc, key, text, index.cmp(&other))?;
+        assert_compared(rt, alloc, key, text, index.cmp(&other));
     }
-    Ok(())
 }
 
 #[test]
-fn keys_rise_by_bytes(rt: HostRuntime) -> Result<(), Fail> {
+fn keys_rise_by_bytes(rt: HostRuntime) {
     for (index, key) in RISING.iter().enumerate() {
-        assert_index(&rt, rt.alloc(), index, key)?;
+        assert_index(&rt, rt.alloc(), index, key);
     }
-    Ok(())
 }
 
 const TEXTS: &[Long] = &[
@@ -152,21 +143,20 @@ fn val(alloc: Global, is: Is) -> Result<Val, Refusal> {
 }
 
 /// What is read from a text of JSON.
-fn read(alloc: Global, text: &str) -> Result<Result<Val, Refusal>, Fail> {
-    let json = Value::from_str(alloc, text)?;
-    Ok(Val::from_json(alloc, &json))
+fn read(rt: &impl Abort, alloc: Global, text: &str) -> Result<Val, Refusal> {
+    let json = Value::from_str(alloc, text).expect(rt, "memory");
+    Val::from_json(alloc, &json)
 }
 
 /// Asserts that this value is read from the text.
-fn assert_read(rt: &impl Abort, alloc: Global, text: &str, is: Is) -> Result<(), Fail> {
-    let read = read(alloc, text)?;
+fn assert_read(rt: &impl Abort, alloc: Global, text: &str, is: Is) {
+    let read = read(rt, alloc, text);
     let want = val(alloc, is);
     assert_eq!(rt; read, want, "{text}");
-    Ok(())
 }
 
 #[test]
-fn values_are_read_from_json(rt: HostRuntime) -> Result<(), Fail> {
+fn values_are_read_from_json(rt: HostRuntime) {
     const ROWS: &[(&str, Is)] = &[
         ("null", Is::Null),
         ("true", Is::Bool(true)),
@@ -180,19 +170,18 @@ fn values_are_read_from_json(rt: HostRuntime) -> Result<(), Fail> {
         ("[]", Is::List),
     ];
     for (text, is) in ROWS {
-        assert_read(&rt, rt.alloc(), text, *is)?;
+        assert_read(&rt, rt.alloc(), text, *is);
     }
-    Ok(())
 }
 
 /// Why no value is read from a text of JSON.
-fn refused(alloc: Global, text: &str) -> Result<Option<Refusal>, Fail> {
-    let read = read(alloc, text)?;
-    Ok(read.err())
+fn refused(rt: &impl Abort, alloc: Global, text: &str) -> Option<Refusal> {
+    let read = read(rt, alloc, text);
+    read.err()
 }
 
 #[test]
-fn json_that_is_no_value(rt: HostRuntime) -> Result<(), Fail> {
+fn json_that_is_no_value(rt: HostRuntime) {
     const ROWS: &[(&str, Refusal)] = &[
         ("9223372036854775808", Refusal::NotWhole),
         ("-9223372036854775809", Refusal::NotWhole),
@@ -206,43 +195,40 @@ fn json_that_is_no_value(rt: HostRuntime) -> Result<(), Fail> {
         ("[[]]", Refusal::BadLine),
     ];
     for (text, why) in ROWS {
-        assert_eq!(rt; refused(rt.alloc(), text)?, Some(*why), "{text}");
+        assert_eq!(rt; refused(&rt, rt.alloc(), text), Some(*why), "{text}");
     }
-    Ok(())
 }
 
 /// The value of a text of JSON.
-fn value_of(alloc: Global, text: &str) -> Result<Val, Fail> {
-    let json = Value::from_str(alloc, text)?;
-    Ok(Val::from_json(alloc, &json)?)
+fn value_of(rt: &impl Abort, alloc: Global, text: &str) -> Val {
+    let json = Value::from_str(alloc, text).expect(rt, "memory");
+    Val::from_json(alloc, &json).expect(rt, "not refused")
 }
 
 /// The value, printed as JSON.
-fn printed(alloc: Global, value: &Val) -> Result<String, Fail> {
-    let json = value.to_json(alloc)?;
-    Ok(json.to_string(alloc)?)
+fn printed(rt: &impl Abort, alloc: Global, value: &Val) -> String {
+    let json = value.to_json(alloc).expect(rt, "not refused");
+    json.to_string(alloc).expect(rt, "memory")
 }
 
 /// Asserts that the text's value is printed as the text, and read as the same value again.
-fn assert_kept(rt: &impl Abort, alloc: Global, text: &str) -> Result<(), Fail> {
-    let value = value_of(alloc, text)?;
-    let printed = printed(alloc, &value)?;
+fn assert_kept(rt: &impl Abort, alloc: Global, text: &str) {
+    let value = value_of(rt, alloc, text);
+    let printed = printed(rt, alloc, &value);
     assert_eq!(rt; printed.as_str(), text);
-    let again = value_of(alloc, printed.as_str())?;
+    let again = value_of(rt, alloc, printed.as_str());
     assert_eq!(rt; again, value, "{text}");
-    Ok(())
 }
 
 /// Asserts that a copy of the text's value is equal to it.
-fn assert_copied(rt: &impl Abort, alloc: Global, text: &str) -> Result<(), Fail> {
-    let value = value_of(alloc, text)?;
-    let copy = value.clone()?;
+fn assert_copied(rt: &impl Abort, alloc: Global, text: &str) {
+    let value = value_of(rt, alloc, text);
+    let copy = value.clone().expect(rt, "memory");
     assert_eq!(rt; copy, value, "{text}");
-    Ok(())
 }
 
 #[test]
-fn printed_values_are_read_again(rt: HostRuntime) -> Result<(), Fail> {
+fn printed_values_are_read_again(rt: HostRuntime) {
     const PRINTED: &[&str] = &[
         "null",
         "true",
@@ -257,8 +243,7 @@ fn printed_values_are_read_again(rt: HostRuntime) -> Result<(), Fail> {
         r#""tête \"à\" 🦀\n""#,
     ];
     for text in PRINTED {
-        assert_kept(&rt, rt.alloc(), text)?;
-        assert_copied(&rt, rt.alloc(), text)?;
+        assert_kept(&rt, rt.alloc(), text);
+        assert_copied(&rt, rt.alloc(), text);
     }
-    Ok(())
 }

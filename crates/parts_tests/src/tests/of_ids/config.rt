@@ -3,7 +3,6 @@
 use ids::{Config, Refusal};
 use std::alloc::Global;
 use std::process::Abort;
-use std::test::Fail;
 
 /// These members, and every other number at its limit.
 fn greatest_of(members: Vec<u32>) -> Config {
@@ -19,9 +18,9 @@ fn greatest_of(members: Vec<u32>) -> Config {
 }
 
 /// Three members, and every other number at its limit.
-fn greatest(alloc: Global) -> Result<Config, Fail> {
-    let members = vec![in alloc; 1, 2, 4_294_967_295]?;
-    Ok(greatest_of(members))
+fn greatest(rt: &impl Abort, alloc: Global) -> Config {
+    let members = vec![in alloc; 1, 2, 4_294_967_295].expect(rt, "memory");
+    greatest_of(members)
 }
 
 /// What `check` returns.
@@ -47,67 +46,65 @@ const ROWS: [Row; 10] = [
     (4_294_967_295, [OK, BAD, BAD, BAD, BAD, OK]),
 ];
 
-fn with_own(alloc: Global, number: u32) -> Result<Answer, Fail> {
-    let mut config = greatest(alloc)?;
+fn with_own(rt: &impl Abort, alloc: Global, number: u32) -> Answer {
+    let mut config = greatest(rt, alloc);
     config.own = number;
-    Ok(config.check())
+    config.check()
 }
 
-fn with_clients(alloc: Global, number: u32) -> Result<Answer, Fail> {
-    let mut config = greatest(alloc)?;
+fn with_clients(rt: &impl Abort, alloc: Global, number: u32) -> Answer {
+    let mut config = greatest(rt, alloc);
     config.clients = number;
-    Ok(config.check())
+    config.check()
 }
 
-fn with_readers(alloc: Global, number: u32) -> Result<Answer, Fail> {
-    let mut config = greatest(alloc)?;
+fn with_readers(rt: &impl Abort, alloc: Global, number: u32) -> Answer {
+    let mut config = greatest(rt, alloc);
     config.readers = number;
-    Ok(config.check())
+    config.check()
 }
 
-fn with_queue(alloc: Global, number: u32) -> Result<Answer, Fail> {
-    let mut config = greatest(alloc)?;
+fn with_queue(rt: &impl Abort, alloc: Global, number: u32) -> Answer {
+    let mut config = greatest(rt, alloc);
     config.queue = number;
-    Ok(config.check())
+    config.check()
 }
 
-fn with_batch(alloc: Global, number: u32) -> Result<Answer, Fail> {
-    let mut config = greatest(alloc)?;
+fn with_batch(rt: &impl Abort, alloc: Global, number: u32) -> Answer {
+    let mut config = greatest(rt, alloc);
     config.batch = number;
-    Ok(config.check())
+    config.check()
 }
 
-fn with_serials(alloc: Global, number: u32) -> Result<Answer, Fail> {
-    let mut config = greatest(alloc)?;
+fn with_serials(rt: &impl Abort, alloc: Global, number: u32) -> Answer {
+    let mut config = greatest(rt, alloc);
     config.serials = number;
-    Ok(config.check())
+    config.check()
 }
 
 /// The answers of `check` with the number as each of these in turn.
-fn answers(alloc: Global, number: u32) -> Result<[Answer; 6], Fail> {
-    Ok([
-        with_own(alloc, number)?,
-        with_clients(alloc, number)?,
-        with_readers(alloc, number)?,
-        with_queue(alloc, number)?,
-        with_batch(alloc, number)?,
-        with_serials(alloc, number)?,
-    ])
+fn answers(rt: &impl Abort, alloc: Global, number: u32) -> [Answer; 6] {
+    [
+        with_own(rt, alloc, number),
+        with_clients(rt, alloc, number),
+        with_readers(rt, alloc, number),
+        with_queue(rt, alloc, number),
+        with_batch(rt, alloc, number),
+        with_serials(rt, alloc, number),
+    ]
 }
 
-fn assert_answers(rt: &impl Abort, alloc: Global, row: Row) -> Result<(), Fail> {
+fn assert_answers(rt: &impl Abort, alloc: Global, row: Row) {
     let (number, want) = row;
-    let answers = answers(alloc, number)?;
+    let answers = answers(rt, alloc, number);
     assert_eq!(rt; answers, want, "at {number}");
-    Ok(())
 }
 
 #[test]
-fn numbers_are_within_limits(rt: HostRuntime) -> Result<(), Fail> {
+fn numbers_are_within_limits(rt: HostRuntime) {
     for row in ROWS {
-        assert_answers(&rt, rt.alloc(), row)?;
+        assert_answers(&rt, rt.alloc(), row);
     }
-    Ok(())
 }
 
 /// The answer of `check` with these members.
@@ -116,23 +113,22 @@ fn with_members(members: Vec<u32>) -> Answer {
 }
 
 /// The answer of `check` with the members from 1 to the last one.
-fn with_members_to(alloc: Global, last: u32) -> Result<Answer, Fail> {
+fn with_members_to(rt: &impl Abort, alloc: Global, last: u32) -> Answer {
     let mut members = Vec::new(alloc);
     for member in 1..=last {
-        members.push(member)?;
+        members.push(member).expect(rt, "memory");
     }
-    Ok(with_members(members))
+    with_members(members)
 }
 
 #[test]
-fn members_are_different_and_few(rt: HostRuntime) -> Result<(), Fail> {
+fn members_are_different_and_few(rt: HostRuntime) {
     let alloc = rt.alloc();
     assert_eq!(rt; with_members(Vec::new(alloc)), BAD, "no member");
-    assert_eq!(rt; with_members_to(alloc, 64)?, OK, "64 members");
-    assert_eq!(rt; with_members_to(alloc, 65)?, BAD, "65 members");
-    let twice = vec![in alloc; 2, 3, 2]?;
+    assert_eq!(rt; with_members_to(&rt, alloc, 64), OK, "64 members");
+    assert_eq!(rt; with_members_to(&rt, alloc, 65), BAD, "65 members");
+    let twice = vec![in alloc; 2, 3, 2].expect(&rt, "memory");
     assert_eq!(rt; with_members(twice), BAD, "twice the same member");
-    let zero = vec![in alloc; 2, 0]?;
+    let zero = vec![in alloc; 2, 0].expect(&rt, "memory");
     assert_eq!(rt; with_members(zero), BAD, "a member numbered 0");
-    Ok(())
 }

@@ -1,7 +1,6 @@
 //! Replica numbers, and the order and the text of ids.
 
 use ids::{OpId, ReplicaId};
-use std::test::Fail;
 
 fn id(counter: u64, replica: u32) -> Option<OpId> {
     let replica = ReplicaId::new(replica)?;
@@ -40,8 +39,12 @@ fn ids_rise_by_counter_then_replica(rt: HostRuntime) {
 }
 
 #[test]
-fn ids_are_printed(rt: HostRuntime) -> Result<(), Fail> {
-    let id = id(12, 3).ok_or("no replica")?;
-    assert_eq!(rt; format!(in rt.alloc(); "{id}")?.as_str(), "12@3");
-    Ok(())
+fn ids_are_printed(rt: HostRuntime) {
+    let id = id(12, 3).expect(&rt, "no replica");
+    assert_eq!(rt;
+        format!(in rt.alloc(); "{id}")
+            .expect(&rt, "memory")
+            .as_str(),
+        "12@3"
+    );
 }

@@ -3,7 +3,6 @@
 use ids::Refusal;
 use std::alloc::{AllocError, Global};
 use std::process::Abort;
-use std::test::Fail;
 
 /// A refusal, its number, and what is printed.
 type Row = (Refusal, u8, &'static str);
@@ -37,19 +36,20 @@ const ROWS: &[Row] = &[
     (Refusal::Closed, 26, "E26"),
 ];
 
-fn assert_printed(rt: &impl Abort, alloc: Global, row: &Row) -> Result<(), Fail> {
+fn assert_printed(rt: &impl Abort, alloc: Global, row: &Row) {
     let (refusal, number, text) = *row;
     assert_eq!(rt; refusal.number(), number);
-    assert_eq!(rt; format!(in alloc; "{refusal}")?.as_str(), text);
-    Ok(())
+    assert_eq!(rt;
+        format!(in alloc; "{refusal}").expect(rt, "memory").as_str(),
+        text
+    );
 }
 
 #[test]
-fn refusals_are_printed_by_their_numbers(rt: HostRuntime) -> Result<(), Fail> {
+fn refusals_are_printed_by_their_numbers(rt: HostRuntime) {
     for row in ROWS {
-        assert_printed(&rt, rt.alloc(), row)?;
+        assert_printed(&rt, rt.alloc(), row);
     }
-    Ok(())
 }
 
 #[test]

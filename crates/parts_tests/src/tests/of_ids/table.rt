@@ -3,7 +3,6 @@
 use ids::{Refusal, ReplicaId, ReplicaTable};
 use std::alloc::Global;
 use std::process::Abort;
-use std::test::Fail;
 
 const RISING: [(usize, u32); 4] = [(0, 1), (1, 5), (2, 7), (3, 4_294_967_295)];
 
@@ -23,21 +22,19 @@ fn assert_rising(rt: &impl Abort, table: &ReplicaTable) {
 }
 
 #[test]
-fn members_stand_in_order(rt: HostRuntime) -> Result<(), Fail> {
-    let table = ReplicaTable::new(rt.alloc(), &[7, 4_294_967_295, 1, 5])?;
+fn members_stand_in_order(rt: HostRuntime) {
+    let table = ReplicaTable::new(rt.alloc(), &[7, 4_294_967_295, 1, 5]).expect(&rt, "a table");
     assert_rising(&rt, &table);
-    let copy = table.clone()?;
+    let copy = table.clone().expect(&rt, "memory");
     assert_rising(&rt, &copy);
-    Ok(())
 }
 
 #[test]
-fn others_stand_nowhere(rt: HostRuntime) -> Result<(), Fail> {
-    let table = ReplicaTable::new(rt.alloc(), &[7, 4_294_967_295, 1, 5])?;
+fn others_stand_nowhere(rt: HostRuntime) {
+    let table = ReplicaTable::new(rt.alloc(), &[7, 4_294_967_295, 1, 5]).expect(&rt, "a table");
     for number in [2, 6, 4_294_967_294] {
         assert_eq!(rt; index_of(&table, number), None, "at {number}");
     }
-    Ok(())
 }
 
 /// The length of the table of these members.
@@ -47,7 +44,7 @@ fn made(alloc: Global, members: &[u32]) -> Result<usize, Refusal> {
 }
 
 #[test]
-fn tables_are_within_limits(rt: HostRuntime) -> Result<(), Fail> {
+fn tables_are_within_limits(rt: HostRuntime) {
     let mut members = Vec::new(rt.alloc());
     for length in 0..=65 {
         let want = if length == 0 || length == 65 {
@@ -56,9 +53,8 @@ fn tables_are_within_limits(rt: HostRuntime) -> Result<(), Fail> {
             Ok(length)
         };
         assert_eq!(rt; made(rt.alloc(), &members), want, "of {length} members");
-        members.push(100 - length as u32)?;
+        members.push(100 - length as u32).expect(&rt, "memory");
     }
-    Ok(())
 }
 
 #[test]
@@ -82,11 +78,14 @@ fn join(table: &mut ReplicaTable, number: u32) -> Result<usize, Refusal> {
 type Joins = (u32, usize);
 
 /// Asserts the indices that these numbers have, one after another.
-fn assert_joins(rt: &impl Abort, table: &mut ReplicaTable, joins: &[Joins]) -> Result<(), Refusal> {
+fn assert_joins(rt: &impl Abort, table: &mut ReplicaTable, joins: &[Joins]) {
     for (number, index) in joins {
-        assert_eq!(rt; join(table, *number)?, *index, "of {number}");
+        assert_eq!(rt;
+            join(table, *number).expect(rt, "a thread"),
+            *index,
+            "of {number}"
+        );
     }
-    Ok(())
 }
 
 /// Asserts that the table has these numbers in this order, and no others.
@@ -100,33 +99,31 @@ fn assert_numbers(rt: &impl Abort, table: &ReplicaTable, numbers: &[u32]) {
 }
 
 #[test]
-fn others_join_behind_the_members(rt: HostRuntime) -> Result<(), Fail> {
+fn others_join_behind_the_members(rt: HostRuntime) {
     const JOINS: &[Joins] = &[(6, 2), (2, 3), (9, 1), (6, 2), (5, 0), (1, 4), (2, 3)];
     const NUMBERS: &[u32] = &[5, 9, 6, 2, 1];
-    let mut table = ReplicaTable::new(rt.alloc(), &[9, 5])?;
-    assert_joins(&rt, &mut table, JOINS)?;
+    let mut table = ReplicaTable::new(rt.alloc(), &[9, 5]).expect(&rt, "a table");
+    assert_joins(&rt, &mut table, JOINS);
     assert_numbers(&rt, &table, NUMBERS);
-    let copy = table.clone()?;
+    let copy = table.clone().expect(&rt, "memory");
     assert_numbers(&rt, &copy, NUMBERS);
-    Ok(())
 }
 
 /// The numbers 101 to 164.
-fn sixty_four(alloc: Global) -> Result<ReplicaTable, Refusal> {
+fn sixty_four(rt: &impl Abort, alloc: Global) -> ReplicaTable {
     let mut members = Vec::new(alloc);
     for number in 101..=164 {
-        members.push(number)?;
+        members.push(number).expect(rt, "memory");
     }
-    ReplicaTable::new(alloc, &members)
+    ReplicaTable::new(alloc, &members).expect(rt, "a table")
 }
 
 /// Lets 1001 to 1192 join behind 64 members.
-fn fill(rt: &impl Abort, table: &mut ReplicaTable) -> Result<(), Refusal> {
+fn fill(rt: &impl Abort, table: &mut ReplicaTable) {
     for number in 1001..=1192 {
         let index = number as usize - 937;
-        assert_joins(rt, table, &[(number, index)])?;
+        assert_joins(rt, table, &[(number, index)]);
     }
-    Ok(())
 }
 
 /// Asserts that the table has room for the first numbers, and none for the second.
@@ -140,13 +137,12 @@ fn assert_room(rt: &impl Abort, table: &ReplicaTable, has: &[u32], lacks: &[u32]
 }
 
 #[test]
-fn at_most_256_are_in_a_table(rt: HostRuntime) -> Result<(), Fail> {
-    let mut table = sixty_four(rt.alloc())?;
+fn at_most_256_are_in_a_table(rt: HostRuntime) {
+    let mut table = sixty_four(&rt, rt.alloc());
     assert_room(&rt, &table, &[1, 101, 1192], &[]);
-    fill(&rt, &mut table)?;
+    fill(&rt, &mut table);
     assert_eq!(rt; table.len(), 256);
     assert_room(&rt, &table, &[101, 164, 1001, 1192], &[1, 100, 165, 1193]);
-    let copy = table.clone()?;
+    let copy = table.clone().expect(&rt, "memory");
     assert_room(&rt, &copy, &[101, 164, 1001, 1192], &[1, 100, 165, 1193]);
-    Ok(())
 }

@@ -3,7 +3,7 @@
 use super::*;
 
 #[test]
-fn the_smallest_comes_first(rt: HostRuntime) -> Result<(), Fail> {
+fn the_smallest_comes_first(rt: HostRuntime) {
     const ORDERS: &[&[Turn]] = &[
         &[FIRST_OF_1, FIRST_OF_2, FIRST_OF_3],
         &[FIRST_OF_3, FIRST_OF_2, FIRST_OF_1],
@@ -22,9 +22,8 @@ fn the_smallest_comes_first(rt: HostRuntime) -> Result<(), Fail> {
         Turn::Smallest(None),
     ];
     for order in ORDERS {
-        on_new(&rt, rt.alloc(), 0, order, TURNS)?;
+        on_new(&rt, rt.alloc(), 0, order, TURNS);
     }
-    Ok(())
 }
 
 /// Of the first operations of three replicas one is taken, and the others are left.
@@ -56,16 +55,15 @@ const TAKEN: &[&[Turn]] = &[
 ];
 
 #[test]
-fn any_may_be_taken(rt: HostRuntime) -> Result<(), Fail> {
+fn any_may_be_taken(rt: HostRuntime) {
     const FIRST: &[Turn] = &[FIRST_OF_2, FIRST_OF_3, FIRST_OF_1];
     for turns in TAKEN {
-        on_new(&rt, rt.alloc(), 0, FIRST, turns)?;
+        on_new(&rt, rt.alloc(), 0, FIRST, turns);
     }
-    Ok(())
 }
 
 #[test]
-fn an_id_waits_once(rt: HostRuntime) -> Result<(), Fail> {
+fn an_id_waits_once(rt: HostRuntime) {
     const TURNS: &[Turn] = &[
         FIRST_OF_2,
         Turn::Put((1, 2), [0, 0, 0], Writes::Delete, Ok(Delivered::Known)),
@@ -76,7 +74,7 @@ fn an_id_waits_once(rt: HostRuntime) -> Result<(), Fail> {
 }
 
 #[test]
-fn ids_are_counters_with_replicas(rt: HostRuntime) -> Result<(), Fail> {
+fn ids_are_counters_with_replicas(rt: HostRuntime) {
     const TURNS: &[Turn] = &[
         FIRST_OF_2,
         Turn::Has((1, 2), true),
@@ -92,7 +90,7 @@ fn ids_are_counters_with_replicas(rt: HostRuntime) -> Result<(), Fail> {
 }
 
 #[test]
-fn what_is_stuck_is_passed_over(rt: HostRuntime) -> Result<(), Fail> {
+fn what_is_stuck_is_passed_over(rt: HostRuntime) {
     const TURNS: &[Turn] = &[
         Turn::Put((2, 2), [0, 1, 0], Writes::Map, KEPT),
         Turn::Smallest(None),
@@ -106,7 +104,7 @@ fn what_is_stuck_is_passed_over(rt: HostRuntime) -> Result<(), Fail> {
 }
 
 #[test]
-fn a_counter_that_nothing_explains_is_no_bar(rt: HostRuntime) -> Result<(), Fail> {
+fn a_counter_that_nothing_explains_is_no_bar(rt: HostRuntime) {
     const TURNS: &[Turn] = &[
         Turn::Put((3, 3), [0, 2, 0], Writes::Map, KEPT),
         Turn::Put((9, 2), [0, 0, 0], Writes::Map, KEPT),

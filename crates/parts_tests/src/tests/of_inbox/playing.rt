@@ -38,16 +38,17 @@ pub enum Turn {
 
 /// An operation at the root.
 fn op(
+    rt: &impl Abort,
     alloc: Global,
     pair: Pair,
     counters: [u64; 3],
     writes: Writes,
-) -> Result<Shared<Op>, Refusal> {
+) -> Shared<Op> {
     let mutation = match writes {
         Writes::Map => Mutation::Assign(Val::EmptyMap),
         Writes::Delete => Mutation::Delete,
     };
-    fixtures::op(alloc, pair, &counters, Place::doc(alloc), mutation)
+    fixtures::op(alloc, pair, &counters, Place::doc(alloc), mutation).expect(rt, "an operation")
 }
 
 /// Puts an operation, and asserts the answer.
@@ -88,70 +89,47 @@ fn beside(pair: Pair, writes: Option<Writes>) -> Option<(Pair, Writes)> {
 }
 
 /// Takes the operation with this id, and asserts what it writes.
-fn takes(rt: &impl Abort, inbox: &mut Inbox, pair: Pair, want: Option<Writes>) -> Result<(), Fail> {
-    let id = id_of(pair)?;
+fn takes(rt: &impl Abort, inbox: &mut Inbox, pair: Pair, want: Option<Writes>) {
+    let id = id_of(pair).expect(rt, "an id");
     assert_eq!(rt; take(inbox, id), beside(pair, want));
-    Ok(())
 }
 
 /// Asserts whether one with this id waits.
-fn has(rt: &impl Abort, inbox: &Inbox, pair: Pair, want: bool) -> Result<(), Fail> {
-    let id = id_of(pair)?;
+fn has(rt: &impl Abort, inbox: &Inbox, pair: Pair, want: bool) {
+    let id = id_of(pair).expect(rt, "an id");
     assert_eq!(rt; inbox.contains(id), want, "{id:?}");
-    Ok(())
 }
 
 /// Plays a turn.
-fn take_turn(
-    rt: &impl Abort,
-    alloc: Global,
-    inbox: &mut Inbox,
-    document: &Document,
-    turn: Turn,
-) -> Result<(), Fail> {
+fn take_turn(rt: &impl Abort, alloc: Global, inbox: &mut Inbox, document: &Document, turn: Turn) {
     match turn {
         Turn::Put(pair, counters, writes, want) => {
-            let op = op(alloc, pair, counters, writes)?;
+            let op = op(rt, alloc, pair, counters, writes);
             answers(rt, inbox, op, document, want);
         }
         Turn::Smallest(want) => assert_eq!(rt; smallest(inbox, document), want),
-        Turn::Take(pair, want) => takes(rt, inbox, pair, want)?,
-        Turn::Has(pair, want) => has(rt, inbox, pair, want)?,
+        Turn::Take(pair, want) => takes(rt, inbox, pair, want),
+        Turn::Has(pair, want) => has(rt, inbox, pair, want),
         Turn::Room(ready, want) => assert_eq!(rt; inbox.has_room(ready), want),
         Turn::Len(want) => assert_eq!(rt; inbox.len(), want),
     }
-    Ok(())
 }
 
 /// Plays these turns in order.
-fn play(
-    rt: &impl Abort,
-    alloc: Global,
-    inbox: &mut Inbox,
-    document: &Document,
-    turns: &[Turn],
-) -> Result<(), Fail> {
+fn play(rt: &impl Abort, alloc: Global, inbox: &mut Inbox, document: &Document, turns: &[Turn]) {
     for next in turns {
-        take_turn(rt, alloc, inbox, document, *next)?;
+        take_turn(rt, alloc, inbox, document, *next);
     }
-    Ok(())
 }
 
 /// Puts this many operations of replica 2, from its second on. Each waits for the one of replica 3 whose counter is one less.
-fn fill(
-    rt: &impl Abort,
-    alloc: Global,
-    inbox: &mut Inbox,
-    document: &Document,
-    stuck: u64,
-) -> Result<(), Fail>
+fn fill(rt: &impl Abort, alloc: Global, inbox: &mut Inbox, document: &Document, stuck: u64)
     requires { stuck < 10000 }
 {
     for index in 0..stuck {
-        let op = op(alloc, (index + 2, 2), [0, 0, index + 1], Writes::Map)?;
+        let op = op(rt, alloc, (index + 2, 2), [0, 0, index + 1], Writes::Map);
         answers(rt, inbox, op, document, KEPT);
     }
-    Ok(())
 }
 
 /// Plays the first turns and then the last, once this many operations wait, none of which is ready.
@@ -163,26 +141,20 @@ fn fill_and_play(
     stuck: u64,
     first: &[Turn],
     second: &[Turn],
-) -> Result<(), Fail>
+)
     requires { stuck < 10000 }
 {
-    fill(rt, alloc, inbox, document, stuck)?;
-    play(rt, alloc, inbox, document, first)?;
+    fill(rt, alloc, inbox, document, stuck);
+    play(rt, alloc, inbox, document, first);
     play(rt, alloc, inbox, document, second)
 }
 
 /// Plays the first turns and then the last on a new inbox of replica 1 among 1, 2 and 3, once this many operations wait there, none of
 /// which is ready.
-pub fn on_new(
-    rt: &impl Abort,
-    alloc: Global,
-    stuck: u64,
-    first: &[Turn],
-    second: &[Turn],
-) -> Result<(), Fail>
+pub fn on_new(rt: &impl Abort, alloc: Global, stuck: u64, first: &[Turn], second: &[Turn])
     requires { stuck < 10000 }
 {
-    let document = Document::new(alloc, &[1, 2, 3])?;
+    let document = Document::new(alloc, &[1, 2, 3]).expect(rt, "a value");
     let mut inbox = Inbox::new(alloc);
     fill_and_play(rt, alloc, &mut inbox, &document, stuck, first, second)
 }

@@ -5,7 +5,7 @@ use super::*;
 const FULL: Result<Delivered, Refusal> = Err(Refusal::InboxFull);
 
 #[test]
-fn a_slot_is_held_for_what_is_ready(rt: HostRuntime) -> Result<(), Fail> {
+fn a_slot_is_held_for_what_is_ready(rt: HostRuntime) {
     const TURNS: &[Turn] = &[
         Turn::Len(4096),
         Turn::Smallest(None),
