@@ -9,7 +9,7 @@ from typing import Optional
 from jdoc import Document, JdocError, Refused, Unsaved
 from link import Address, Links
 from notes import Note, Notes
-from screen import HELP, LETTERS, Screen, lines_of
+from screen import HELP, LETTERS, Screen, view_of
 
 
 class Mistake(Exception):
@@ -35,17 +35,18 @@ class Application:
         while not self._has_ended:
             is_seeking = self._links.seek()
             self._show(is_typing)
-            events = self._links.selector.select(1 if is_seeking else None)
+            events = self._links.selector.select(0 if self._links.has_frames() else 1 if is_seeking else None)
             is_typing = all(key.fileobj is not sys.stdin for key, _ in events)
             for key, mask in events:
                 key.data(mask)
+            self._links.go_on()
         self._links.go_offline()
 
     def _show(self, is_typing: bool) -> None:
         where = f"online, {len(self._links.links)} linked" if self._links.is_online else "offline"
         title = f" {self._name} · device {self._document.number} · {where} "
         self._shown = self._notes.all()
-        self._screen.show(lines_of(title, self._shown, self._message or self._links.fault), is_typing)
+        self._screen.show(view_of(title, self._shown, self._message or self._links.fault), is_typing)
 
     def _read(self, _: int) -> None:
         data = os.read(sys.stdin.fileno(), 65536)
@@ -67,6 +68,8 @@ class Application:
                 self._links.go_offline()
             elif word == "online":
                 self._links.go_online()
+            elif word in ("up", "down"):
+                self._screen.scroll(1 if word == "down" else -1)
             elif word:
                 self._write(word, rest.strip())
                 self._links.tell_news()
@@ -82,6 +85,7 @@ class Application:
             raise Mistake("a note has a text")
         if word == "add":
             self._notes.add(text)
+            self._screen.scroll_to_end()
         elif word == "change":
             self._notes.change(self._note(number), text)
         elif word in ("done", "undo"):

@@ -1,103 +1,16 @@
-"""Devices of the notes application, each a program of its own, over real sockets."""
+"""Devices of the notes application, as their users see them."""
 from __future__ import annotations
 
 import fcntl
-import os
 import re
 import socket
-import subprocess
-import sys
-import tempfile
-import threading
 import unittest
-from pathlib import Path
 
+from devices import HERE, PATIENCE, Case
 from jdoc import Document
 
-HERE = Path(__file__).resolve().parent
-TOP = HERE.parents[1]
-os.environ.setdefault("JDOC", str(TOP / "jdoc"))
-PATIENCE = 60
 
-
-def free_port() -> str:
-    with socket.create_server(("127.0.0.1", 0)) as server:
-        return str(server.getsockname()[1])
-
-
-class Device:
-    """A running application. `screen` is what it showed last, without the title."""
-
-    def __init__(self, path: Path, *words: str) -> None:
-        paths = os.pathsep.join([str(TOP / "clients/python"), os.environ.get("PYTHONPATH", "")])
-        environment = {**os.environ, "PYTHONPATH": paths, "PYTHONIOENCODING": "utf-8"}
-        self.process = subprocess.Popen(
-            [sys.executable, str(HERE), str(path), *words], stdin=subprocess.PIPE, stdout=subprocess.PIPE, text=True, encoding="utf-8",
-            env=environment,
-        )
-        self.title, self.screen, self._has_ended = "", [""], False
-        self._changed = threading.Condition()
-        self._reader = threading.Thread(target=self._read, daemon=True)
-        self._reader.start()
-
-    def _read(self) -> None:
-        assert self.process.stdout
-        screen: list[str] = []
-        for line in self.process.stdout:
-            if line.strip():
-                screen.append(line.rstrip())
-                continue
-            with self._changed:
-                (self.title, *self.screen), screen = screen, []
-                self._changed.notify_all()
-        with self._changed:
-            self._has_ended = True
-            self._changed.notify_all()
-
-    def type(self, *lines: str) -> None:
-        assert self.process.stdin
-        self.process.stdin.write("".join(f"{it}\n" for it in lines))
-        self.process.stdin.flush()
-
-    def await_screen(self, *lines: str, title: str = "") -> None:
-        """Waits until it shows these lines, beneath a title that contains this."""
-        def is_shown() -> bool:
-            return self.screen == [*lines] and title in self.title
-
-        with self._changed:
-            self._changed.wait_for(lambda: is_shown() or self._has_ended, PATIENCE)
-            if not is_shown():
-                raise AssertionError(f"{title} {lines} isn't shown, but {self.title} {self.screen}")
-
-    def end(self) -> int:
-        """Ends it, and returns its status."""
-        with self.process:
-            if self.process.poll() is None:
-                self.type("quit")
-            status = self.process.wait(PATIENCE)
-            self._reader.join(PATIENCE)
-        return status
-
-
-class Devices(unittest.TestCase):
-    def setUp(self) -> None:
-        folder = tempfile.TemporaryDirectory()
-        self.addCleanup(folder.cleanup)
-        self.folder, self.port = Path(folder.name), free_port()
-
-    def device(self, name: str, *words: str) -> Device:
-        device = Device(self.folder / f"{name}.notes", *words)
-        self.addCleanup(device.end)
-        return device
-
-    def pair(self) -> tuple[Device, Device]:
-        kitchen = self.device("kitchen", "--number", "1", "--listen", self.port)
-        kitchen.await_screen("    nothing yet", title="kitchen · device 1 · online, 0 linked")
-        phone = self.device("phone", "--number", "2", "--connect", f"localhost:{self.port}")
-        for it in (kitchen, phone):
-            it.await_screen("    nothing yet", title="online, 1 linked")
-        return kitchen, phone
-
+class Devices(Case):
     def test_two_edit_offline_and_show_the_same_again(self) -> None:
         kitchen, phone = self.pair()
         kitchen.type("add Milk", "add Eggs")
