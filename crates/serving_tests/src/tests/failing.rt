@@ -11,6 +11,10 @@ const REQUESTS: &str = r#"["assign",["a"],1]
 ["save"]
 "#;
 
+const TWO_WRITES: &str = r#"["assign",["a"],1]
+["assign",["b"],2]
+"#;
+
 /// What is on the disk when the program starts: a line that was being written.
 const TORN: &str = r#"["own",[1,7],["assi"#;
 
@@ -44,6 +48,22 @@ fn survives<R: Wait + Abort>(rt: &R, alloc: Global, breaks: Breaks) -> Result<()
             "{breaks:?}, {loose}"
         );
     }
+    Ok(())
+}
+
+/// What couldn't be saved when it was written is saved at the end of the input.
+#[test]
+fn the_end_of_the_input_saves(rt: HostRuntime) -> Result<(), Fail> {
+    let alloc = rt.alloc();
+    // A start reads and syncs, and a write appends and syncs: this is the append of the second write.
+    let disk = Disk::of(alloc, b"", Breaks::At(5))?;
+    let (disk, told) = served(&rt, alloc, disk, TWO_WRITES.as_bytes())?;
+    let (replies, ended) = told.ok_or(Refusal::BadConfig)?;
+    assert!(rt; str::from_utf8(&replies)?.ends_with("\n[\"unsaved\",2,1]\n"));
+    assert_eq!(rt; ended, Ok(()));
+    let (_disk, told) = served(&rt, alloc, disk, b"")?;
+    let (replies, _ended) = told.ok_or(Refusal::BadConfig)?;
+    assert_eq!(rt; length_in(str::from_utf8(&replies)?), 2);
     Ok(())
 }
 
