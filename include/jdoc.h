@@ -4,10 +4,11 @@
  * `jdoc serve`, which are in docs/FORMATS.md. The library opens no files or sockets, starts no threads, prints nothing, and never ends the
  * process. It allocates with malloc and realloc, and frees with free.
  *
- * The journal is the caller's. What a call made, received or saved is in the lines that `jdoc_lines` gives, and nowhere else: append them
- * to a file and sync it before you act on the reply, show it or send it to a peer, and then call `jdoc_lines_stored`. So where a reply
- * says "made", "received" or "saved", it says that the lines are there for you to store. A document that is never stored is lost with its
- * handle; its number must not be used again then.
+ * The journal is the caller's. On POSIX systems `jdoc_file.h` beside this header keeps it in a file, with all that this takes: use that,
+ * unless you have a store of your own. What a call made, received or saved is in the lines that `jdoc_lines` gives, and nowhere else:
+ * store them before you act on the reply, show it or send it to a peer, and then call `jdoc_lines_stored`. So where a reply says "made",
+ * "received" or "saved", it says that the lines are there for you to store. A document that is never stored is lost with its handle; its
+ * number must not be used again then.
  *
  * What the caller must ensure, since nothing checks it:
  * - All bytes of a handle are 0 before it is first used (JDOC_CLOSED_HANDLE). After that, only these functions write to it. It isn't copied

@@ -87,7 +87,7 @@ else
     echo "c: no -fsanitize=address here"
 fi
 compiled first examples/c/first.c
-if [ "$("$room/first")" = '["made",[1,1],0]' ]; then
+if [ "$("$room/first" "$room/first.jdoc")" = '["made",[1,1],0]' ]; then
     passed=$((passed + 1))
 else
     echo "c: FAILED: first"

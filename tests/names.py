@@ -24,7 +24,7 @@ NAMES_WITH_CRATES = re.compile(r"((?:`\w+`(?:, )?)+) \(((?:`\w+`(?:, )?)+)\)")
 # The head of a function, with its contract.
 HEAD = re.compile(r'^( *)(?:pub(?:\(\w+\))? )?(?:const )?(?:extern "C" )?fn (\w+)(.*?)^\1(?:\{|\}|[^\n]*;$)', re.MULTILINE | re.DOTALL)
 # What looks like a definition or a clause but isn't one.
-FILE_ENDINGS = {"md", "antt", "rt", "py", "txt", "sh", "session", "serve", "bad"}
+FILE_ENDINGS = {"md", "antt", "rt", "py", "txt", "sh", "session", "serve", "bad", "c", "h"}
 # Crates whose tests are in tests/scripts too, where a group is named by a line `# NAME: TEXT`.
 PLAYED = {"calls", "cli", "scripts", "serving", "world"}
 # Names that aren't words of this repository, by page: of the toolchain, of the system, and of what doesn't exist or no longer exists.
@@ -51,7 +51,7 @@ def text_of(*patterns):
 @functools.cache
 def code_files():
     """The text of each file of code."""
-    return [it.read_text(encoding="utf-8") for it in sorted(TOP.glob("crates/*/src/**/*.rt"))]
+    return [it.read_text(encoding="utf-8") for part in ("crates/*/src/**/*.rt", "clients/rust/src/*.rs") for it in sorted(TOP.glob(part))]
 
 
 @functools.cache
@@ -68,7 +68,7 @@ def clauses():
 def words():
     """Each word of a source, script or edit, and the name of each."""
     parts = [f"crates/*/{part}/**/*.*" for part in ("src", "specs", "proofs", "must-fail", "wrong")]
-    patterns = [*parts, "clients/**/*.py", "examples/**/*.py", "tests/*", "tests/scripts/*"]
+    patterns = [*parts, "clients/**/*.py", "examples/**/*.py", "tests/*", "tests/scripts/*", "tests/c/*.c", "include/*"]
     patterns += ["tools/*", "bench/*", ".ci/*", "jdoc", "crates.txt"]
     names = {it.stem for pattern in [*parts, "crates/*", "tests/scripts/*"] for it in TOP.glob(pattern)}
     found = set(re.findall(r"[\w-]+", text_of(*patterns)))

@@ -1,23 +1,24 @@
-/* One write, and its reply: the shortest program with the library. `shopping.c` beside it checks each status, and stores the
- * journal. */
-#include "jdoc.h"
+/* One write, and its reply: the shortest program with the library. `shopping.c` beside it checks each status.
+ *
+ *     first FILE
+ */
+#include "jdoc_file.h"
 
 #include <stdio.h>
 #include <string.h>
 
-int main(void)
+int main(int argc, char **argv)
 {
-    jdoc_handle document = JDOC_CLOSED_HANDLE;
+    if (argc != 2)
+        return 1;
+    jdoc_file *file = NULL;
     const char *request = "[\"assign\",[\"title\"],\"Shopping\"]";
-    char reply[256], lines[4096];
-    size_t taken, length;
+    const char *reply;
+    size_t length;
 
-    jdoc_open(&document, 1, "", 0, &taken);
-    jdoc_call(&document, request, strlen(request));
-    jdoc_lines(&document, lines, sizeof lines, &length);
-    jdoc_lines_stored(&document);
-    jdoc_reply(&document, reply, sizeof reply, &length);
-    printf("%.*s", (int)length, reply);
-    jdoc_close(&document);
+    jdoc_file_open(&file, argv[1], 1);
+    jdoc_file_call(file, request, strlen(request), &reply, &length);
+    printf("%s", reply);
+    jdoc_file_close(&file);
     return 0;
 }
