@@ -9,6 +9,8 @@ from .errors import (
 )
 from .values import ItemId, Path, Scalar, Step, Value
 
+__version__ = "0.1.0"
+
 __all__ = [
     "Answer", "BadLine", "Damaged", "Died", "Document", "Gone", "ItemId", "JdocError", "Locked", "Lost", "NoProgram", "NotFound",
     "OtherProcess", "Path", "REFUSALS", "Receipt", "Refused", "Scalar", "Status", "Step", "Unsaved", "Value", "WrongNumber",

@@ -6,22 +6,25 @@ import subprocess
 import tempfile
 import weakref
 from contextlib import suppress
-from typing import IO, Any, Callable, List, Optional, Sequence, Tuple
+from typing import IO, List, Optional, Sequence, Tuple
 
 from .errors import Died, NoProgram
 from .openings import fault_of
 
 # How many seconds a program may take to end once its input has ended.
 PATIENCE = 30.0
-# How much of a reply is read at once, which is what a pipe holds.
+# How much of a reply is read first, and then at once: most are short, and a pipe holds no more.
+SHORT = 4096
 PIECE = 65536
 
 
 class Request:
     """A request under way: how many bytes of it each call sent, and the bytes of its reply as they came."""
 
+    __slots__ = ("line", "sent", "reply")
+
     def __init__(self, line: bytes) -> None:
-        self.line = memoryview(line)
+        self.line = line
         self.sent: List[int] = []
         self.reply: List[bytes] = []
 
@@ -74,18 +77,21 @@ class Child:
 
     def _finish(self, request: Request) -> bytes:
         """Sends what is left of the request, and returns the reply. It may be called again, wherever it was interrupted."""
+        line, sent, parts = request.line, request.sent, request.reply
         try:
-            while (sent := sum(request.sent)) < len(request.line):
-                _note(request.sent, self._input.write, request.line[sent:])
-            while not request.reply or (request.reply[-1] and b"\n" not in request.reply[-1]):
-                _note(request.reply, self._output.read, PIECE)
+            # Python runs signal handlers between two bytecodes, and there is none between what `map` calls and what `extend` appends: if
+            # an exception comes, either nothing was written or read, or it has been noted.
+            while (done := sum(sent)) < len(line):
+                sent.extend(map(self._input.write, (memoryview(line)[done:] if done else line,)))
+            while not parts or (parts[-1] and b"\n" not in parts[-1]):
+                parts.extend(map(self._output.read, (PIECE if parts else SHORT,)))
         # Another `OSError` is none of the program's: a handler may raise `TimeoutError`.
         except BrokenPipeError:
             raise self._found_dead() from None
-        reply = b"".join(request.reply)
-        if not request.reply[-1]:
+        if not parts[-1]:
             raise self._found_dead()
-        if reply.index(b"\n") + 1 < len(reply):
+        reply = b"".join(parts)
+        if reply.find(b"\n") + 1 < len(reply):
             raise Died(self.end(f"said {reply[:200]!r}, which is more than a line"))
         return reply
 
@@ -137,12 +143,6 @@ def _forget_all() -> None:
 
 
 os.register_at_fork(after_in_child=_forget_all)
-
-
-def _note(results: List[Any], call: Callable[[Any], Any], word: Any) -> None:
-    """Appends what the call returns. Python runs signal handlers between two bytecodes, and here is none between call and append: if an
-    exception comes, either nothing was read or written, or it has been noted."""
-    results.extend(map(call, (word,)))
 
 
 def _stop(process: subprocess.Popen[bytes], said: IO[bytes]) -> None:

@@ -8,7 +8,7 @@ import threading
 from typing import Any, List, NamedTuple, Optional, Sequence, Tuple, Union
 
 from .child import Child
-from .errors import Died, Lost, OtherProcess, Refused, Unsaved
+from .errors import Died, JdocError, Lost, OtherProcess, Refused, Unsaved
 from .library import Library
 from .values import MOST_DEPTH, ItemId, Part, Path, Plain, Scalar, Value, Words, checked, expression, from_one
 
@@ -96,6 +96,8 @@ class Document:
         if number is None and not (path is not None and _knows_number(path)):
             number = 1 + secrets.randbelow(MOST_NUMBER)
         if number is not None:
+            if isinstance(number, bool) or not isinstance(number, int):
+                raise TypeError(f"a device's number is an int: {number!r}")
             if not 1 <= number <= MOST_NUMBER:
                 raise ValueError(f"a device's number is from 1 to {MOST_NUMBER}: {number}")
         if library := library or (None if program else _library()):
@@ -274,6 +276,14 @@ class Document:
         if self._process != (here := os.getpid()):
             raise OtherProcess(self._process, here)
         return self._lock
+
+    def __repr__(self) -> str:
+        """The number and the length, or why there is none. It asks for the length."""
+        try:
+            state = f"{len(self)} operations"
+        except (JdocError, ValueError) as fault:
+            state = str(fault)
+        return f"<jdoc.Document number {self.number}: {state}>"
 
     def _ask(self, word: str, *request: object) -> List[Any]:
         line = _line(request)

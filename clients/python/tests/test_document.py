@@ -38,6 +38,19 @@ class Values(Case):
         self.assertEqual(len(numbers), 4)
         self.assertTrue(all(1 <= it <= 4294967295 for it in numbers))
 
+    def test_a_number_is_an_int(self) -> None:
+        number: Any
+        for number in (True, "1", 1.0):
+            with self.assertRaisesRegex(TypeError, f"a device's number is an int: {number!r}"):
+                Document.open(number=number)
+
+    def test_a_document_shows_its_number_and_its_length(self) -> None:
+        document = self.open(number=7)
+        document.set("l", [1])
+        self.assertEqual(repr(document), "<jdoc.Document number 7: 2 operations>")
+        document.close()
+        self.assertEqual(repr(document), "<jdoc.Document number 7: the document is closed>")
+
     def test_what_no_document_holds_changes_nothing(self) -> None:
         document = self.open(number=1)
         value: Any
