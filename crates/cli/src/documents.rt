@@ -79,7 +79,12 @@ pub fn serve_store<'a, R: RandomSource + Wait, S: Store + Drop, B: BufRead, O: W
     out: &mut O,
 ) -> Result<(), Fault<'a>> {
     let number = match number {
-        Some(number) => Some(ReplicaId::new(number).ok_or(Fault::OutOfRange)?),
+        Some(number) => {
+            let Some(own) = ReplicaId::new(number) else {
+                return Err(Fault::OutOfRange);
+            };
+            Some(own)
+        }
         None => None,
     };
     let mut desk = match start(rt, alloc, store, number) {
