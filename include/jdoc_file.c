@@ -754,6 +754,19 @@ uint32_t jdoc_file_call(jdoc_file *file, const char *line, size_t line_len, cons
     return leave(file, &signals, status);
 }
 
+uint32_t jdoc_file_reply(jdoc_file *file, char *out, size_t room, size_t *length)
+{
+    sigset_t signals;
+    uint32_t status = enter(file, &signals);
+    if (status != JDOC_DONE)
+        return status;
+    *length = file->reply.length;
+    if (file->reply.length > room)
+        return leave(file, &signals, JDOC_TOO_SHORT);
+    memcpy(out, file->reply.bytes, file->reply.length);
+    return leave(file, &signals, JDOC_DONE);
+}
+
 uint32_t jdoc_file_reader(jdoc_file *file, jdoc_handle *reader, size_t room)
 {
     sigset_t signals;

@@ -87,6 +87,11 @@ uint32_t jdoc_file_close(jdoc_file **file);
  * JDOC_FILE_LOST, JDOC_FILE_GONE, JDOC_FILE_OTHER_PROCESS, JDOC_FILE_BUSY, or what the opening returned. */
 uint32_t jdoc_file_call(jdoc_file *file, const char *line, size_t line_len, const char **reply, size_t *reply_len);
 
+/* Copies the reply to the last request, as `jdoc_reply`: for a host whose other code may call between a request and the use of its reply.
+ *
+ * Returns JDOC_DONE, JDOC_TOO_SHORT, JDOC_CLOSED, JDOC_FILE_OTHER_PROCESS or JDOC_FILE_BUSY. */
+uint32_t jdoc_file_reply(jdoc_file *file, char *out, size_t room, size_t *length);
+
 /* Opens a reader of the document, as `jdoc_reader`. It may show operations that aren't saved yet.
  *
  * Returns what `jdoc_reader` does, or what refuses `jdoc_file_call`. */

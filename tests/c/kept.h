@@ -39,6 +39,12 @@ static uint32_t ask(jdoc_file *file, const char *request)
     uint32_t status = jdoc_file_call(file, request, strlen(request), &said, &length);
     expect(strlen(said) == length && length < sizeof reply, "a reply is ended by a 0");
     strcpy(reply, said);
+    if (status == JDOC_DONE) {
+        char copy[sizeof reply];
+        size_t again;
+        expect(jdoc_file_reply(file, copy, length - 1, &again) == JDOC_TOO_SHORT && again == length, "a reply is too long");
+        expect(jdoc_file_reply(file, copy, length, &again) == JDOC_DONE && memcmp(copy, reply, length) == 0, "a reply is copied");
+    }
     return status;
 }
 

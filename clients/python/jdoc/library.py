@@ -11,15 +11,17 @@ from typing import Any, Dict, List, Optional, Set, Tuple
 from .errors import Damaged, Died, Gone, JdocError, Locked, NoProgram, NotFound, WrongNumber
 
 # The statuses of `jdoc_file.h` that are told apart here.
-DONE, UNSAVED, LOST, GONE, LOCKED, NOT_FOUND, DAMAGED, WRONG_NUMBER = 0, 16, 17, 18, 21, 22, 26, 27
+DONE, TOO_SHORT, UNSAVED, LOST, GONE, LOCKED, NOT_FOUND, DAMAGED, WRONG_NUMBER = 0, 2, 16, 17, 18, 21, 22, 26, 27
 
-# The functions that are used: the type of what each returns, and of what it takes.
+# The functions that are used: the type of what each returns, and of what it takes. Those of a request are given words that have their
+# types, since converting them costs as much as the request.
 POINTER, SIZE, TEXT = ctypes.c_void_p, ctypes.c_size_t, ctypes.c_char_p
-FUNCTIONS: Dict[str, Tuple[Any, List[Any]]] = {
+FUNCTIONS: Dict[str, Tuple[Any, Optional[List[Any]]]] = {
     "jdoc_file_open": (ctypes.c_uint32, [ctypes.POINTER(POINTER), TEXT, ctypes.c_uint32]),
     # The function takes one word: the other one is the weak reference whose callback it is, or None.
     "jdoc_file_close": (ctypes.c_uint32, [ctypes.POINTER(POINTER), ctypes.py_object]),
-    "jdoc_file_call": (ctypes.c_uint32, [POINTER, TEXT, SIZE, ctypes.POINTER(POINTER), ctypes.POINTER(SIZE)]),
+    "jdoc_file_call": (ctypes.c_uint32, None),
+    "jdoc_file_reply": (ctypes.c_uint32, None),
     "jdoc_file_number": (ctypes.c_uint32, [POINTER]),
     "jdoc_file_line": (ctypes.c_uint64, [POINTER]),
     "jdoc_file_error": (ctypes.c_int, [POINTER]),
@@ -47,8 +49,12 @@ class Library:
         self._status = DONE
         self._end: Optional[str] = None
         self._turns = 0
-        self._file = POINTER()
+        # The file, and where the library puts the length of a reply.
+        self._file, self._length = POINTER(), SIZE()
         self._calls = _loaded(library)
+        self._ask = partial(self._calls.jdoc_file_call, self._file)
+        self._copy = self._copier(4096)
+        self._places = ctypes.byref(POINTER()), ctypes.byref(self._length)
         # The functions set the pointer themselves, so whatever interrupts the opening, the file is closed.
         CLOSERS.difference_update([it for it in CLOSERS if it() is None])
         CLOSERS.add(weakref.ref(self, partial(self._calls.jdoc_file_close, ctypes.byref(self._file))))
@@ -86,26 +92,37 @@ class Library:
         return b'["ready",%d,%d]\n' % (number, length)
 
     def _call(self, line: bytes) -> bytes:
+        self._turns = turn = self._turns + 1
+        status: int = self._ask(line, SIZE(len(line)), *self._places)
+        # A signal handler may use the document at any time, so the reply isn't read where the library has it.
+        copy = self._copy
+        while copy() == TOO_SHORT:
+            self._copy = copy = self._copier(self._length.value)
+        said: bytes = copy.args[1][: self._length.value]
+        if status != DONE or self._status != DONE:
+            return self._failed(status, said)
+        if self._turns != turn:
+            raise JdocError("a signal handler used the document during this call, whose reply is gone")
+        return said
+
+    def _copier(self, room: int) -> partial[int]:
+        """What copies a reply of up to this many bytes to its second argument."""
+        place = ctypes.create_string_buffer(room)
+        return partial(self._calls.jdoc_file_reply, self._file, place, SIZE(room), ctypes.byref(self._length))
+
+    def _failed(self, status: int, said: bytes) -> bytes:
+        """What a program says where a call ended so."""
+        if self._status == DONE and status in (LOST, GONE):
+            self._status = status
+            # Whoever opens the file again needs the lock.
+            self.close()
         if self._status == LOST:
             return b'["lost"]\n'
         if self._status == GONE:
             raise Gone(self._text(GONE))
-        if self._end is not None:
-            raise Died(self._end)
-        self._turns = turn = self._turns + 1
-        reply, length = POINTER(), SIZE()
-        status: int = self._calls.jdoc_file_call(self._file, line, len(line), ctypes.byref(reply), ctypes.byref(length))
-        said = ctypes.string_at(reply, length.value)
-        if status in (LOST, GONE):
-            self._status = status
-            # Whoever opens the file again needs the lock.
-            self.close()
-            return self._call(line)
-        if self._turns != turn:
-            raise JdocError("a signal handler used the document during this call, whose reply is gone")
-        if not said:
-            raise Died(f"jdoc: {self._text(status)}")
-        return said
+        if status == UNSAVED and said:
+            return said
+        raise Died(self._end or f"jdoc: {self._text(status)}")
 
     def end(self, why: str) -> str:
         """Closes the document for this reason, and returns it."""
@@ -123,7 +140,9 @@ def _loaded(library: str) -> ctypes.CDLL:
         calls = ctypes.CDLL(library)
         for name, (result, words) in FUNCTIONS.items():
             function = getattr(calls, name)
-            function.restype, function.argtypes = result, words
+            function.restype = result
+            if words is not None:
+                function.argtypes = words
     except (OSError, AttributeError) as fault:
         raise NoProgram(f"jdoc: {fault}") from fault
     return calls
