@@ -82,7 +82,7 @@ class Child:
             # Python runs signal handlers between two bytecodes, and there is none between what `map` calls and what `extend` appends: if
             # an exception comes, either nothing was written or read, or it has been noted.
             while (done := sum(sent)) < len(line):
-                sent.extend(map(self._input.write, (memoryview(line)[done:] if done else line,)))
+                sent.extend(map(self._input.write, (line[done:],)))
             while not parts or (parts[-1] and b"\n" not in parts[-1]):
                 parts.extend(map(self._output.read, (PIECE if parts else SHORT,)))
         # Another `OSError` is none of the program's: a handler may raise `TimeoutError`.

@@ -76,7 +76,14 @@ class Document:
         self._process = os.getpid()
         self._lock = threading.RLock()
         self._is_closed = False
-        self.number: int = self._reply("ready", b"")[1]
+        try:
+            self.number: int = self._reply("ready", b"")[1]
+        except Died:
+            raise
+        except BaseException:
+            # An exception from a signal handler: a launcher that is still compiling wouldn't notice that its input has ended.
+            child.end("was stopped before it was ready")
+            raise
 
     @classmethod
     def open(

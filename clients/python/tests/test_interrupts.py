@@ -5,6 +5,7 @@ import os
 import signal
 import sys
 import threading
+import time
 import unittest
 from contextlib import suppress
 from random import Random
@@ -142,6 +143,27 @@ class Interrupts(Case):
             os.kill(document._child._process.pid, signal.SIGCONT)
             self.assertEqual(document.keys(), [*map(str, range(KEYS)), "k"])
             self.assert_it_goes_on(document)
+
+    def test_a_program_that_is_not_ready_is_stopped(self) -> None:
+        before, waiting = set(jdoc.child.RUNNING), list[jdoc.child.Child]()
+
+        def give_up(*_: Any) -> None:
+            raise Interrupt
+
+        def watch() -> None:
+            while not waiting:
+                time.sleep(0.01)
+                with suppress(RuntimeError):
+                    waiting.extend(it for it in set(jdoc.child.RUNNING) - before if it._request)
+            os.kill(os.getpid(), signal.SIGUSR1)
+
+        self.addCleanup(signal.signal, signal.SIGUSR1, signal.signal(signal.SIGUSR1, give_up))
+        threads = self.apart(watch)
+        with self.assertRaises(Interrupt):
+            # As a launcher that compiles, it doesn't read its input yet.
+            Document.open(program=["sh", "-c", "exec sleep 1000"])
+        self.join(threads)
+        self.assertEqual([it._process.returncode for it in waiting], [-signal.SIGKILL])
 
     def test_a_document_is_closed_though_a_reply_is_due(self) -> None:
         document = self.numbered()
