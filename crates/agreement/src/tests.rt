@@ -10,7 +10,6 @@ mod peers;
 use acts::random_acts;
 use both::play;
 use dice::Dice;
-use std::test::Fail;
 
 /// The number of plays, and the number of acts of each.
 const PLAYS: u64 = 40;
@@ -18,11 +17,10 @@ const PLAYS: u64 = 40;
 const ACTS: u32 = 120;
 
 #[test]
-fn both_say_the_same(rt: HostRuntime) -> Result<(), Fail> {
+fn both_say_the_same(rt: HostRuntime) {
     let alloc = rt.alloc();
     for seed in 0..PLAYS {
-        let acts = random_acts(alloc, Dice::new(seed), ACTS)?;
-        play(&rt, alloc, 4, 3, acts.as_slice())?;
+        let acts = random_acts(&rt, alloc, Dice::new(seed), ACTS);
+        play(&rt, alloc, 4, 3, acts.as_slice());
     }
-    Ok(())
 }

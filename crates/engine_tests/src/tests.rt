@@ -14,19 +14,20 @@ use cursor::Expr;
 use engine::*;
 use ids::{Config, Refusal};
 use std::alloc::Global;
+use std::process::Abort;
 use std::test::Fail;
 
 /// An engine of replica 1 among 1, 2 and 3, with two clients and one reader.
-fn config(alloc: Global, queue: u32, batch: u32) -> Result<Config, Fail> {
-    Ok(Config {
+fn config(rt: &impl Abort, alloc: Global, queue: u32, batch: u32) -> Config {
+    Config {
         own: 1,
-        members: vec![in alloc; 1, 2, 3]?,
+        members: vec![in alloc; 1, 2, 3].expect(rt, "memory"),
         clients: 2,
         readers: 1,
         queue,
         batch,
         serials: 400,
-    })
+    }
 }
 
 /// The expression for a key of the document.

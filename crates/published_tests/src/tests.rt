@@ -21,7 +21,6 @@ use std::alloc::Global;
 use std::marker::Brand;
 use std::process::Abort;
 use std::sync::Wait;
-use std::test::Fail;
 use std::thread::{Threads, join, yield_now};
 use value::{Key, Scalar, Val};
 
@@ -29,39 +28,37 @@ use value::{Key, Scalar, Val};
 const MEMBERS: [u32; 3] = [1, 2, 9];
 
 #[test]
-fn one_thread(rt: HostRuntime) -> Result<(), Fail> {
-    Ok(alone::<Brand, _>(&rt, rt.alloc(), Opened::new())?)
+fn one_thread(rt: HostRuntime) {
+    alone::<Brand, _>(&rt, rt.alloc(), Opened::new())
 }
 
-fn alone<N: EngineName, R: Wait + Abort>(
-    rt: &R,
-    alloc: Global,
-    opened: Opened,
-) -> Result<(), Refusal>
+fn alone<N: EngineName, R: Wait + Abort>(rt: &R, alloc: Global, opened: Opened)
     requires book { opened.seen.book ≡ N.book }
     requires own { N.own ≡ 9 }
     requires table { N.table ≡ in_order (1 ∷ 2 ∷ 9 ∷ []) }
 {
-    let (mut publisher, mut tokens) = new_publisher::<N, R>(rt, alloc, opened)?;
-    let result = mirrored(rt, alloc, &mut publisher, &mut tokens);
+    let (mut publisher, mut tokens) = new_publisher::<N, R>(rt, alloc, opened);
+    mirrored(rt, alloc, &mut publisher, &mut tokens);
     let (_document, _notice) = publisher.end(rt);
-    result
 }
 
 /// A publisher of new documents, with two tokens.
-fn new_publisher<N: EngineName, R: Wait>(
+fn new_publisher<N: EngineName, R: Wait + Abort>(
     rt: &R,
     alloc: Global,
     opened: Opened,
-) -> Result<(Publisher<N>, Vec<ReaderToken<N>>), Refusal>
+) -> (Publisher<N>, Vec<ReaderToken<N>>)
     requires book { opened.seen.book ≡ N.book }
     requires table { N.table ≡ in_order (1 ∷ 2 ∷ 9 ∷ []) }
-    ensures { IfOk result (λ r. r.0.appended ≡ []) }
+    ensures { result.0.appended ≡ [] }
 {
-    let first = Document::new(alloc, &MEMBERS)?;
-    let second = Document::new(alloc, &MEMBERS)?;
-    let (publisher, tokens, _unnamed) = open::<N>(rt, alloc, opened, first, second, 2)?;
-    Ok((publisher, tokens))
+    let first = Document::new(alloc, &MEMBERS).expect(rt, "a value");
+    let second = Document::new(alloc, &MEMBERS).expect(rt, "a value");
+    let (publisher, tokens, _unnamed) = open::<N>(rt, alloc, opened, first, second, 2).expect(
+        rt,
+        "an engine",
+    );
+    (publisher, tokens)
 }
 
 /// Makes a document that holds what is appended, for a session.
@@ -70,33 +67,32 @@ fn mirrored<N: EngineName, R: Wait + Abort>(
     alloc: Global,
     publisher: &mut Publisher<N>,
     tokens: &mut Vec<ReaderToken<N>>,
-) -> Result<(), Refusal>
+)
     requires own { N.own ≡ 9 }
     requires table { N.table ≡ in_order (1 ∷ 2 ∷ 9 ∷ []) }
     requires new { publisher.old.appended ≡ [] }
 {
-    let mut mirror = Document::new(alloc, &MEMBERS)?;
+    let mut mirror = Document::new(alloc, &MEMBERS).expect(rt, "a value");
     token_state(rt, alloc, &mut mirror, publisher, tokens)
 }
 
 #[test]
-fn two_threads(rt: HostRuntime) -> Result<(), Fail> {
-    Ok(shared::<Brand, _>(&rt, rt.alloc(), Opened::new())?)
+fn two_threads(rt: HostRuntime) {
+    shared::<Brand, _>(&rt, rt.alloc(), Opened::new())
 }
 
 fn shared<N: EngineName + Send + Sync, R: Threads + Wait + Abort + Sync>(
     rt: &R,
     alloc: Global,
     opened: Opened,
-) -> Result<(), Refusal>
+)
     requires book { opened.seen.book ≡ N.book }
     requires own { N.own ≡ 9 }
     requires table { N.table ≡ in_order (1 ∷ 2 ∷ 9 ∷ []) }
 {
-    let (mut publisher, mut tokens) = new_publisher::<N, R>(rt, alloc, opened)?;
-    let result = meanwhile(rt, alloc, &mut publisher, &mut tokens);
+    let (mut publisher, mut tokens) = new_publisher::<N, R>(rt, alloc, opened);
+    meanwhile(rt, alloc, &mut publisher, &mut tokens);
     let (_document, _notice) = publisher.end(rt);
-    result
 }
 
 /// One thread publishes two entries, while another asks until it reads both.
@@ -105,31 +101,26 @@ fn meanwhile<N: EngineName + Send + Sync, R: Threads + Wait + Abort + Sync>(
     alloc: Global,
     publisher: &mut Publisher<N>,
     tokens: &mut Vec<ReaderToken<N>>,
-) -> Result<(), Refusal>
+)
     requires own { N.own ≡ 9 }
     requires table { N.table ≡ in_order (1 ∷ 2 ∷ 9 ∷ []) }
     requires new { publisher.old.appended ≡ [] }
 {
-    fill(rt, alloc, publisher)?;
-    let mut token = tokens.pop().ok_or(Refusal::NoReading)?;
+    fill(rt, alloc, publisher);
+    let mut token = tokens.pop().expect(rt, "not refused");
     let read = both(rt, alloc, publisher, &mut token);
     assert!(rt; read);
     assert!(rt; token.seen_len() == 2);
-    Ok(())
 }
 
 /// Appends two entries to a publisher that has none.
-fn fill<N: EngineName, R: Abort>(
-    rt: &R,
-    alloc: Global,
-    publisher: &mut Publisher<N>,
-) -> Result<(), Refusal>
+fn fill<N: EngineName, R: Abort>(rt: &R, alloc: Global, publisher: &mut Publisher<N>)
     requires own { N.own ≡ 9 }
     requires table { N.table ≡ in_order (1 ∷ 2 ∷ 9 ∷ []) }
     requires new { publisher.old.appended ≡ [] }
 {
-    let mut mirror = Document::new(alloc, &MEMBERS)?;
-    write_two(rt, alloc, &mut mirror, publisher)
+    let mut mirror = Document::new(alloc, &MEMBERS).expect(rt, "a value");
+    write_two(rt, alloc, &mut mirror, publisher).expect(rt, "not refused")
 }
 
 /// Whether one thread published and the other read the number.
@@ -171,14 +162,14 @@ fn token_state<N: EngineName, R: Wait + Abort>(
     mirror: &mut Document,
     publisher: &mut Publisher<N>,
     tokens: &mut Vec<ReaderToken<N>>,
-) -> Result<(), Refusal>
+)
     requires own { N.own ≡ 9 }
     requires table { N.table ≡ mirror.old.members }
     requires mirror { publisher.old.appended ≡ mirror.old.entries }
     requires legal { IsEntryHistory N.own mirror.old.entries }
 {
-    let mut late = tokens.pop().ok_or(Refusal::NoReading)?;
-    let mut token = tokens.pop().ok_or(Refusal::NoReading)?;
+    let mut late = tokens.pop().expect(rt, "not refused");
+    let mut token = tokens.pop().expect(rt, "not refused");
     session(rt, alloc, mirror, publisher, &mut token, &mut late)
 }
 
@@ -189,39 +180,33 @@ fn session<N: EngineName, R: Wait + Abort>(
     publisher: &mut Publisher<N>,
     token: &mut ReaderToken<N>,
     late: &mut ReaderToken<N>,
-) -> Result<(), Refusal>
+)
     requires own { N.own ≡ 9 }
     requires table { N.table ≡ mirror.old.members }
     requires mirror { publisher.old.appended ≡ mirror.old.entries }
     requires legal { IsEntryHistory N.own mirror.old.entries }
 {
     let opening = publisher.notice();
-    write_two(rt, alloc, mirror, publisher)?;
+    write_two(rt, alloc, mirror, publisher).expect(rt, "not refused");
     // Nothing is published yet.
-    check_value(rt, alloc, token, None, 0)?;
-    publish(rt, publisher, 2)?;
-    check_value(rt, alloc, token, Some(8), 2)?;
+    check_value(rt, alloc, token, None, 0);
+    publish(rt, publisher, 2);
+    check_value(rt, alloc, token, Some(8), 2);
     // A token that has read nothing learns from a notice.
     check_lessons(rt, late, &opening, &publisher.notice());
     // Replica 5 is a nonmember.
-    write(rt, alloc, mirror, publisher, (3, 5), 9)?;
-    publish(rt, publisher, 3)?;
-    check_value(rt, alloc, late, Some(9), 3)?;
+    write(rt, alloc, mirror, publisher, (3, 5), 9).expect(rt, "memory");
+    publish(rt, publisher, 3);
+    check_value(rt, alloc, late, Some(9), 3);
     assert!(rt; token.seen_len() == 2);
-    Ok(())
 }
 
 /// Publishes, and asserts how many entries are published.
-fn publish<N: EngineName, R: Wait + Abort>(
-    rt: &R,
-    publisher: &mut Publisher<N>,
-    count: usize,
-) -> Result<(), Refusal>
+fn publish<N: EngineName, R: Wait + Abort>(rt: &R, publisher: &mut Publisher<N>, count: usize)
     ensures { publisher.new.appended ≡ publisher.old.appended }
 {
-    publisher.publish(rt)?;
+    publisher.publish(rt).expect(rt, "not refused");
     assert!(rt; publisher.notice().len() == count);
-    Ok(())
 }
 
 /// Asserts the number at the key `a`, in a history of this length.
@@ -231,11 +216,10 @@ fn check_value<N: EngineName, R: Abort>(
     token: &mut ReaderToken<N>,
     wanted: Option<i64>,
     length: usize,
-) -> Result<(), Refusal> {
-    let found = value(alloc, token)?;
+) {
+    let found = value(alloc, token).expect(rt, "not refused");
     assert!(rt; found == wanted);
     assert!(rt; token.seen_len() == length);
-    Ok(())
 }
 
 /// Asserts that a token that has seen nothing learns the longer of two notices, the opening and that of two entries.
@@ -320,7 +304,7 @@ fn write<N: EngineName, R: Abort>(
     ensures mirror { OnOk result (publisher.new.appended ≡ mirror.new.entries) }
     ensures legal { OnOk result (IsEntryHistory N.own mirror.new.entries) }
 {
-    let op = assign(alloc, mirror, id, number)?;
+    let op = assign(rt, alloc, mirror, id, number);
     check(rt, mirror, &op)?;
     assert!(rt; mirror.len() < 1_048_576);
     mirror.reserve(alloc, &op)?;
@@ -331,20 +315,21 @@ fn write<N: EngineName, R: Abort>(
 
 /// The operation with this id that assigns the number at the key `a`, after all that was applied.
 fn assign(
+    rt: &impl Abort,
     alloc: Global,
     document: &Document,
     id: Pair,
     number: i64,
-) -> Result<Shared<Op>, Refusal> {
-    let id = id_of(id)?;
-    let place = field(alloc, "a")?;
+) -> Shared<Op> {
+    let id = id_of(id).expect(rt, "an id");
+    let place = field(alloc, "a").expect(rt, "a place");
     let op = Op {
         id,
-        deps: NamedVector::of(alloc, document.applied().ids())?,
+        deps: NamedVector::of(alloc, document.applied().ids()).expect(rt, "not refused"),
         place,
         mutation: Mutation::Assign(Val::Scalar(Scalar::Whole(number))),
     };
-    Ok(Shared::new(alloc, op)?)
+    Shared::new(alloc, op).expect(rt, "memory")
 }
 
 /// Whether the operation has no fault by itself.

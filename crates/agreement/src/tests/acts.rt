@@ -6,6 +6,7 @@ use document::Question;
 use ids::Refusal;
 use operation::{Command, Mutation, Op, Shared};
 use std::alloc::Global;
+use std::process::Abort;
 use value::{Key, Scalar, Text, Val};
 
 /// How many clients there are.
@@ -79,30 +80,30 @@ impl Probe {
 }
 
 /// This many acts; at the end, what both engines have is sent to a peer.
-pub fn random_acts(alloc: Global, dice: Dice, count: u32) -> Result<Vec<Act>, Refusal> {
+pub fn random_acts(rt: &impl Abort, alloc: Global, dice: Dice, count: u32) -> Vec<Act> {
     let mut dice = dice;
     let mut acts = Vec::new(alloc);
     for _ in 0..count {
-        let act = next_act(alloc, &mut dice)?;
-        acts.push(act)?;
+        let act = next_act(rt, alloc, &mut dice);
+        acts.push(act).expect(rt, "memory");
     }
-    acts.push(Act::Send)?;
-    Ok(acts)
+    acts.push(Act::Send).expect(rt, "memory");
+    acts
 }
 
 /// The next act of a play. Commands, operations and questions use few elements, so that they meet.
-fn next_act(alloc: Global, dice: &mut Dice) -> Result<Act, Refusal> {
+fn next_act(rt: &impl Abort, alloc: Global, dice: &mut Dice) -> Act {
     let client = dice.roll(CLIENTS) as usize;
     let token = dice.roll(CLIENTS + 1) as usize;
     let serial = dice.roll(16);
-    Ok(match dice.roll(12) {
+    match dice.roll(12) {
         0..=3 => Act::Submit {
             client,
-            command: command(alloc, dice)?,
+            command: command(alloc, dice).expect(rt, "not refused"),
         },
         4..=5 => Act::Deliver {
             client,
-            op: op(alloc, dice)?,
+            op: op(alloc, dice).expect(rt, "an operation"),
         },
         6..=7 => Act::Step,
         8 => Act::Poll { client, serial },
@@ -113,9 +114,9 @@ fn next_act(alloc: Global, dice: &mut Dice) -> Result<Act, Refusal> {
         },
         _ => Act::Ask {
             token,
-            probe: next_probe(alloc, dice)?,
+            probe: next_probe(rt, alloc, dice),
         },
-    })
+    }
 }
 
 fn key(alloc: Global, dice: &mut Dice) -> Result<Key, Refusal> {
@@ -162,8 +163,8 @@ fn command(alloc: Global, dice: &mut Dice) -> Result<Command, Refusal> {
     })
 }
 
-fn next_probe(alloc: Global, dice: &mut Dice) -> Result<Probe, Refusal> {
-    let place = expression(alloc, dice)?;
+fn next_probe(rt: &impl Abort, alloc: Global, dice: &mut Dice) -> Probe {
+    let place = expression(alloc, dice).expect(rt, "not refused");
     let kind = match dice.roll(5) {
         0 => Kind::Values,
         1 => Kind::Keys,
@@ -171,7 +172,7 @@ fn next_probe(alloc: Global, dice: &mut Dice) -> Result<Probe, Refusal> {
         3 => Kind::Conflicts,
         _ => Kind::Vector,
     };
-    Ok(Probe { kind, place })
+    Probe { kind, place }
 }
 
 /// A counter of at most 2, most often 0.

@@ -11,25 +11,24 @@ use engine::{
 };
 use ids::{Config, Refusal, ReplicaId};
 use operation::{Command, Op, Reply, Shared};
-use std::alloc::{AllocError, Global};
+use std::alloc::Global;
 use std::marker::Brand;
 use std::process::Abort;
 use std::sync::Wait;
-use std::test::Fail;
 use wire::write_op;
 use world::{World, WorldAct, WorldReply, WorldStep};
 
 /// An engine of replica 1 with a queue of this capacity, whose steps take a batch of this size.
-fn config(alloc: Global, queue: u32, batch: u32) -> Result<Config, Fail> {
-    Ok(Config {
+fn config(rt: &impl Abort, alloc: Global, queue: u32, batch: u32) -> Config {
+    Config {
         own: 1,
-        members: MEMBERS.to_vec(alloc)?,
+        members: MEMBERS.to_vec(alloc).expect(rt, "memory"),
         clients: CLIENTS as u32,
         readers: 1,
         queue,
         batch,
         serials: 12,
-    })
+    }
 }
 
 /// An engine of threads.
@@ -41,15 +40,9 @@ struct Engine<'a, N: EngineName> {
 }
 
 /// Plays these acts on a new world and a new engine, with queues of this capacity and batches of this size. Fails if their answers differ.
-pub fn play<R: Wait + Abort>(
-    rt: &R,
-    alloc: Global,
-    queue: u32,
-    batch: u32,
-    acts: &[Act],
-) -> Result<(), Fail> {
-    let mut world = World::new(alloc, &[config(alloc, queue, batch)?])?;
-    let parts = prepare(alloc, config(alloc, queue, batch)?)?;
+pub fn play<R: Wait + Abort>(rt: &R, alloc: Global, queue: u32, batch: u32, acts: &[Act]) {
+    let mut world = World::new(alloc, &[config(rt, alloc, queue, batch)]).expect(rt, "a value");
+    let parts = prepare(alloc, config(rt, alloc, queue, batch)).expect(rt, "an engine");
     play_in::<Brand, R>(rt, alloc, &mut world, parts, acts)
 }
 
@@ -59,13 +52,16 @@ fn play_in<N: EngineName, R: Wait + Abort>(
     world: &mut World,
     parts: Parts,
     acts: &[Act],
-) -> Result<(), Fail>
+)
     requires book { parts.opened.seen.book ≡ N.book }
     requires own { parts.config.own ≡ N.own }
     requires table { in_order parts.config.members ≡ N.table }
 {
-    let (mut writer, mut clients, mut readers) = open::<N>(rt, alloc, parts)?;
-    let same = match readers.get_mut(0) {
+    let (mut writer, mut clients, mut readers) = open::<N>(rt, alloc, parts).expect(
+        rt,
+        "an engine",
+    );
+    match readers.get_mut(0) {
         Some(reader) => {
             let mut engine = Engine {
                 writer: &mut writer,
@@ -74,10 +70,9 @@ fn play_in<N: EngineName, R: Wait + Abort>(
             };
             act_on_both(rt, alloc, world, &mut engine, acts)
         }
-        None => Err("no reader".into()),
+        None => panic!(rt; "no reader"),
     };
     let _final = close(rt, writer, clients);
-    same
 }
 
 /// Plays an act on both, and asserts that they give the same answer.
@@ -87,79 +82,79 @@ fn act_on_both<N: EngineName, R: Wait + Abort>(
     world: &mut World,
     engine: &mut Engine<N>,
     acts: &[Act],
-) -> Result<(), Fail> {
+) {
     for (number, act) in acts.iter().enumerate() {
-        let same = is_same(rt, alloc, world, engine, act)?;
+        let same = is_same(rt, alloc, world, engine, act);
         assert!(rt; same, "act {number}: {act:?}");
     }
-    Ok(())
 }
 
 /// Plays an act on both. Returns whether they give the same answer.
-fn is_same<N: EngineName, R: Wait>(
+fn is_same<N: EngineName, R: Wait + Abort>(
     rt: &R,
     alloc: Global,
     world: &mut World,
     engine: &mut Engine<N>,
     act: &Act,
-) -> Result<bool, Fail> {
+) -> bool {
     match act {
         Act::Submit { client, command } => submit(rt, alloc, world, engine, *client, command),
         Act::Deliver { client, op } => deliver(rt, alloc, world, engine, *client, op),
         Act::Step => step(rt, alloc, world, engine),
         Act::SingleSteps => single_steps(rt, alloc, world, engine),
-        Act::Poll { client, serial } => poll(alloc, world, engine, *client, *serial),
-        Act::Ask { token, probe } => ask(alloc, world, engine, *token, probe),
+        Act::Poll { client, serial } => poll(rt, alloc, world, engine, *client, *serial),
+        Act::Ask { token, probe } => ask(rt, alloc, world, engine, *token, probe),
         Act::Learn {
             token,
             client,
             serial,
-        } => learn(alloc, world, engine, *token, *client, *serial),
-        Act::Send => send_the_same(alloc, world, engine.reader),
+        } => learn(rt, alloc, world, engine, *token, *client, *serial),
+        Act::Send => send_the_same(rt, alloc, world, engine.reader),
     }
 }
 
 /// The reply of the world's engine to an act.
-pub fn reply(alloc: Global, world: &mut World, act: WorldAct) -> Result<WorldReply, Fail> {
+pub fn reply(rt: &impl Abort, alloc: Global, world: &mut World, act: WorldAct) -> WorldReply {
     let step = WorldStep { engine: 0, act };
-    let mut replies = world.run(alloc, &[step])?;
-    Ok(replies.pop().ok_or("no reply")?)
+    let mut replies = world.run(alloc, &[step]).expect(rt, "not refused");
+    replies.pop().expect(rt, "no reply")
 }
 
-fn client_of<'a, N: EngineName>(
+fn client_of<'a, N: EngineName, A: Abort>(
+    rt: &A,
     engine: &'a mut Engine<'_, N>,
     client: usize,
-) -> Result<&'a mut Client<N>, Fail> {
-    Ok(engine.clients.get_mut(client).ok_or("no such client")?)
+) -> &'a mut Client<N> {
+    engine.clients.get_mut(client).expect(rt, "no such client")
 }
 
-fn submit<N: EngineName, R: Wait>(
+fn submit<N: EngineName, R: Wait + Abort>(
     rt: &R,
     alloc: Global,
     world: &mut World,
     engine: &mut Engine<N>,
     client: usize,
     command: &Command,
-) -> Result<bool, Fail> {
-    let ticket = submitted(rt, alloc, engine, client, command)?;
+) -> bool {
+    let ticket = submitted(rt, alloc, engine, client, command);
     let act = WorldAct::Push {
         client,
-        command: Shared::new(alloc, command.clone()?)?,
+        command: Shared::new(alloc, command.clone().expect(rt, "memory")).expect(rt, "memory"),
     };
-    let told = reply(alloc, world, act)?;
-    Ok(is_same_ticket(&told, &ticket))
+    let told = reply(rt, alloc, world, act);
+    is_same_ticket(&told, &ticket)
 }
 
 /// The answer that a client of the engine of threads gets to a command.
-fn submitted<N: EngineName, R: Wait>(
+fn submitted<N: EngineName, R: Wait + Abort>(
     rt: &R,
     alloc: Global,
     engine: &mut Engine<N>,
     client: usize,
     command: &Command,
-) -> Result<Result<Ticket, Refusal>, Fail> {
-    let client = client_of(engine, client)?;
-    Ok(client.submit(rt, alloc, command.clone()?))
+) -> Result<Ticket, Refusal> {
+    let client = client_of(rt, engine, client);
+    client.submit(rt, alloc, command.clone().expect(rt, "memory"))
 }
 
 fn is_same_ticket(told: &WorldReply, ticket: &Result<Ticket, Refusal>) -> bool {
@@ -171,33 +166,33 @@ fn is_same_ticket(told: &WorldReply, ticket: &Result<Ticket, Refusal>) -> bool {
 }
 
 /// The world's engine receives the operation as a line.
-fn deliver<N: EngineName, R: Wait>(
+fn deliver<N: EngineName, R: Wait + Abort>(
     rt: &R,
     alloc: Global,
     world: &mut World,
     engine: &mut Engine<N>,
     client: usize,
     op: &Shared<Op>,
-) -> Result<bool, Fail> {
-    let ticket = delivered(rt, alloc, engine, client, op)?;
+) -> bool {
+    let ticket = delivered(rt, alloc, engine, client, op);
     let act = WorldAct::Line {
         client,
-        text: line_of(alloc, op)?,
+        text: line_of(rt, alloc, op),
     };
-    let told = reply(alloc, world, act)?;
-    Ok(is_same_receipt(&told, &ticket))
+    let told = reply(rt, alloc, world, act);
+    is_same_receipt(&told, &ticket)
 }
 
 /// The answer that a client of the engine of threads gets to an operation.
-fn delivered<N: EngineName, R: Wait>(
+fn delivered<N: EngineName, R: Wait + Abort>(
     rt: &R,
     alloc: Global,
     engine: &mut Engine<N>,
     client: usize,
     op: &Shared<Op>,
-) -> Result<Result<Ticket, Refusal>, Fail> {
-    let client = client_of(engine, client)?;
-    Ok(client.deliver(rt, alloc, op.clone()?))
+) -> Result<Ticket, Refusal> {
+    let client = client_of(rt, engine, client);
+    client.deliver(rt, alloc, op.clone().expect(rt, "memory"))
 }
 
 fn is_same_receipt(told: &WorldReply, ticket: &Result<Ticket, Refusal>) -> bool {
@@ -216,35 +211,35 @@ fn is_same_receipt(told: &WorldReply, ticket: &Result<Ticket, Refusal>) -> bool 
     }
 }
 
-fn line_of(alloc: Global, op: &Op) -> Result<Vec<u8>, AllocError> {
-    let mut text = write_op(alloc, op)?;
-    text.push(b'\n')?;
-    Ok(text)
+fn line_of(rt: &impl Abort, alloc: Global, op: &Op) -> Vec<u8> {
+    let mut text = write_op(alloc, op).expect(rt, "not refused");
+    text.push(b'\n').expect(rt, "memory");
+    text
 }
 
-fn step<N: EngineName, R: Wait>(
+fn step<N: EngineName, R: Wait + Abort>(
     rt: &R,
     alloc: Global,
     world: &mut World,
     engine: &mut Engine<N>,
-) -> Result<bool, Fail> {
-    let told = reply(alloc, world, WorldAct::WholeStep)?;
+) -> bool {
+    let told = reply(rt, alloc, world, WorldAct::WholeStep);
     let stepped = engine.writer.step(rt, alloc);
-    Ok(is_same_step(&told, &stepped))
+    is_same_step(&told, &stepped)
 }
 
 /// The engine steps with batches of one, and the world's engine takes, publishes and gives.
-fn single_steps<N: EngineName, R: Wait>(
+fn single_steps<N: EngineName, R: Wait + Abort>(
     rt: &R,
     alloc: Global,
     world: &mut World,
     engine: &mut Engine<N>,
-) -> Result<bool, Fail> {
-    let took = reply(alloc, world, WorldAct::Take)?;
-    let published = reply(alloc, world, WorldAct::Publish)?;
-    let gave = reply(alloc, world, WorldAct::Give)?;
+) -> bool {
+    let took = reply(rt, alloc, world, WorldAct::Take);
+    let published = reply(rt, alloc, world, WorldAct::Publish);
+    let gave = reply(rt, alloc, world, WorldAct::Give);
     let stepped = engine.writer.step(rt, alloc);
-    Ok(is_idle(&took) == is_idle(&gave) && is_same_step(&published, &stepped))
+    is_idle(&took) == is_idle(&gave) && is_same_step(&published, &stepped)
 }
 
 fn is_idle(told: &WorldReply) -> bool {
@@ -259,26 +254,27 @@ fn is_same_step(told: &WorldReply, stepped: &Step) -> bool {
     }
 }
 
-fn ticket(client: usize, serial: u64) -> Result<Ticket, Fail> {
-    Ok(Ticket {
-        replica: ReplicaId::new(1).ok_or("numbered 0")?,
+fn ticket(rt: &impl Abort, client: usize, serial: u64) -> Ticket {
+    Ticket {
+        replica: ReplicaId::new(1).expect(rt, "numbered 0"),
         client,
         serial,
-    })
+    }
 }
 
-fn poll<N: EngineName>(
+fn poll<N: EngineName, A: Abort>(
+    rt: &A,
     alloc: Global,
     world: &mut World,
     engine: &mut Engine<N>,
     client: usize,
     serial: u64,
-) -> Result<bool, Fail> {
-    let ticket = ticket(client, serial)?;
-    let answer = client_of(engine, client)?.poll(&ticket);
+) -> bool {
+    let ticket = ticket(rt, client, serial);
+    let answer = client_of(rt, engine, client).poll(&ticket);
     let act = WorldAct::Poll { client, serial };
-    let told = reply(alloc, world, act)?;
-    Ok(polled(&told) == Some(answer))
+    let told = reply(rt, alloc, world, act);
+    polled(&told) == Some(answer)
 }
 
 /// The answer to a poll, as an engine of threads gives it.
@@ -291,25 +287,32 @@ fn polled(told: &WorldReply) -> Option<Result<Option<Reply>, Refusal>> {
     }
 }
 
-fn ask<N: EngineName>(
+fn ask<N: EngineName, A: Abort>(
+    rt: &A,
     alloc: Global,
     world: &mut World,
     engine: &mut Engine<N>,
     token: usize,
     probe: &Probe,
-) -> Result<bool, Fail> {
-    let told = told(alloc, world, token, probe)?;
-    let read = read(alloc, engine, token, probe)?;
-    Ok(is_same_answer(&told, &read, seen_len(engine, token) as u64))
+) -> bool {
+    let told = told(rt, alloc, world, token, probe);
+    let read = read(rt, alloc, engine, token, probe);
+    is_same_answer(&told, &read, seen_len(engine, token) as u64)
 }
 
 /// The reply of the world's engine to a question.
-fn told(alloc: Global, world: &mut World, token: usize, probe: &Probe) -> Result<WorldReply, Fail> {
+fn told(
+    rt: &impl Abort,
+    alloc: Global,
+    world: &mut World,
+    token: usize,
+    probe: &Probe,
+) -> WorldReply {
     let act = WorldAct::Ask {
         token,
-        question: probe.question()?,
+        question: probe.question().expect(rt, "not refused"),
     };
-    reply(alloc, world, act)
+    reply(rt, alloc, world, act)
 }
 
 /// Whether the world's reply is this answer, from a token that has seen this many entries.
@@ -323,34 +326,37 @@ fn is_same_answer(told: &WorldReply, read: &Result<Reading, Refusal>, length: u6
     }
 }
 
-fn read<N: EngineName>(
+fn read<N: EngineName, A: Abort>(
+    rt: &A,
     alloc: Global,
     engine: &mut Engine<N>,
     token: usize,
     probe: &Probe,
-) -> Result<Result<Reading, Refusal>, Refusal> {
+) -> Result<Reading, Refusal> {
     match engine.clients.get_mut(token) {
-        Some(client) => client_reads(alloc, client, probe),
-        None => reader_reads(alloc, engine.reader, probe),
+        Some(client) => client_reads(rt, alloc, client, probe),
+        None => reader_reads(rt, alloc, engine.reader, probe),
     }
 }
 
-fn client_reads<N: EngineName>(
+fn client_reads<N: EngineName, A: Abort>(
+    rt: &A,
     alloc: Global,
     client: &mut Client<N>,
     probe: &Probe,
-) -> Result<Result<Reading, Refusal>, Refusal> {
-    let question = probe.question()?;
-    Ok(client.ask(alloc, &question))
+) -> Result<Reading, Refusal> {
+    let question = probe.question().expect(rt, "not refused");
+    client.ask(alloc, &question)
 }
 
-fn reader_reads<N: EngineName>(
+fn reader_reads<N: EngineName, A: Abort>(
+    rt: &A,
     alloc: Global,
     reader: &mut ReaderToken<N>,
     probe: &Probe,
-) -> Result<Result<Reading, Refusal>, Refusal> {
-    let question = probe.question()?;
-    Ok(reader.ask(alloc, &question))
+) -> Result<Reading, Refusal> {
+    let question = probe.question().expect(rt, "not refused");
+    reader.ask(alloc, &question)
 }
 
 fn seen_len<N: EngineName>(engine: &Engine<N>, token: usize) -> usize {
@@ -373,39 +379,41 @@ fn is_same_reading(one: &Reading, other: &Reading) -> bool {
 }
 
 /// A token learns of an answer, if there is one.
-fn learn<N: EngineName>(
+fn learn<N: EngineName, A: Abort>(
+    rt: &A,
     alloc: Global,
     world: &mut World,
     engine: &mut Engine<N>,
     token: usize,
     client: usize,
     serial: u64,
-) -> Result<bool, Fail> {
-    let ticket = ticket(client, serial)?;
-    let length = learnt(engine, token, &ticket)?;
+) -> bool {
+    let ticket = ticket(rt, client, serial);
+    let length = learnt(rt, engine, token, &ticket);
     let act = WorldAct::Learn {
         token,
         client,
         serial,
     };
-    let told = reply(alloc, world, act)?;
-    Ok(is_same_lesson(&told, length))
+    let told = reply(rt, alloc, world, act);
+    is_same_lesson(&told, length)
 }
 
 /// How many entries a token has seen once it has learnt of a ticket's answer. `None` if there is no answer.
-fn learnt<N: EngineName>(
+fn learnt<N: EngineName, A: Abort>(
+    rt: &A,
     engine: &mut Engine<N>,
     token: usize,
     ticket: &Ticket,
-) -> Result<Option<u64>, Fail> {
-    let Some(notice) = notice(client_of(engine, ticket.client)?, ticket) else {
-        return Ok(None);
+) -> Option<u64> {
+    let Some(notice) = notice(client_of(rt, engine, ticket.client), ticket) else {
+        return None;
     };
     match engine.clients.get_mut(token) {
         Some(client) => client.learn(&notice),
         None => engine.reader.learn(&notice),
     }
-    Ok(Some(seen_len(engine, token) as u64))
+    Some(seen_len(engine, token) as u64)
 }
 
 fn notice<N: EngineName>(client: &Client<N>, ticket: &Ticket) -> Option<Notice<N>> {

@@ -14,7 +14,6 @@ use operation::Command;
 use std::alloc::Global;
 use std::process::Abort;
 use std::sync::Wait;
-use std::test::Fail;
 use value::{Key, Scalar, Val};
 
 /// What an actor does in a turn. Clients are tokens 0 and 1, the reader is token 2.
@@ -56,7 +55,7 @@ const LAST: &[Move] = &[
 type Turns = [&'static [Move]; 4];
 
 #[test]
-fn commands_and_questions_in_every_order(rt: HostRuntime) -> Result<(), Fail> {
+fn commands_and_questions_in_every_order(rt: HostRuntime) {
     const TURNS: Turns = [
         &[Move::List(0), Move::Insert(0)],
         &[Move::Insert(1), Move::Delete(1)],
@@ -69,7 +68,7 @@ fn commands_and_questions_in_every_order(rt: HostRuntime) -> Result<(), Fail> {
 }
 
 #[test]
-fn polls_in_every_order(rt: HostRuntime) -> Result<(), Fail> {
+fn polls_in_every_order(rt: HostRuntime) {
     const TURNS: Turns = [
         &[Move::List(0), Move::Poll(0, 1), Move::Write(0)],
         &[Move::Insert(1), Move::Poll(1, 1)],
@@ -88,17 +87,16 @@ fn play_all<R: Wait + Abort>(
     turns: &Turns,
     order: &mut [usize],
     count: u32,
-) -> Result<(), Fail> {
+) {
     for number in 1..=count {
-        let acts = acts_in(alloc, turns, order)?;
-        play(rt, alloc, 2, 1, acts.as_slice())?;
+        let acts = acts_in(rt, alloc, turns, order);
+        play(rt, alloc, 2, 1, acts.as_slice());
         assert_eq!(rt; next_order(order), number < count);
     }
-    Ok(())
 }
 
 /// The acts of actors who take their turns in this order, and the last ones.
-fn acts_in(alloc: Global, turns: &Turns, order: &[usize]) -> Result<Vec<Act>, Refusal> {
+fn acts_in(rt: &impl Abort, alloc: Global, turns: &Turns, order: &[usize]) -> Vec<Act> {
     let mut acts = Vec::new(alloc);
     for (index, actor) in order.iter().enumerate() {
         // The actor's turns before this one.
@@ -108,54 +106,60 @@ fn acts_in(alloc: Global, turns: &Turns, order: &[usize]) -> Result<Vec<Act>, Re
             .filter(|other| *other == actor)
             .count();
         if let Some(next) = turns.get(*actor).and_then(|moves| moves.get(turn)) {
-            acts.push(act(alloc, *next)?)?;
+            acts.push(act(rt, alloc, *next)).expect(rt, "memory");
         }
     }
     for next in LAST {
-        acts.push(act(alloc, *next)?)?;
+        acts.push(act(rt, alloc, *next)).expect(rt, "memory");
     }
-    Ok(acts)
+    acts
 }
 
-fn act(alloc: Global, next: Move) -> Result<Act, Refusal> {
+fn act(rt: &impl Abort, alloc: Global, next: Move) -> Act {
     match next {
-        Move::Step => Ok(Act::SingleSteps),
-        Move::Poll(client, serial) => Ok(Act::Poll { client, serial }),
-        Move::Items(token) => ask(alloc, token, Kind::Items, &[]),
-        Move::Values(token) => ask(alloc, token, Kind::Values, &[1]),
-        Move::List(client) => submit(client, Command::Assign(at(alloc, &[])?, Val::EmptyList)),
-        Move::Insert(client) => submit(
+        Move::Step => Act::SingleSteps,
+        Move::Poll(client, serial) => Act::Poll { client, serial },
+        Move::Items(token) => ask(rt, alloc, token, Kind::Items, &[]),
+        Move::Values(token) => ask(rt, alloc, token, Kind::Values, &[1]),
+        Move::List(client) => submit(
+            rt,
             client,
-            Command::InsertAfter(at(alloc, &[0])?, Val::EmptyMap),
+            Command::Assign(at(rt, alloc, &[]), Val::EmptyList),
+        ),
+        Move::Insert(client) => submit(
+            rt,
+            client,
+            Command::InsertAfter(at(rt, alloc, &[0]), Val::EmptyMap),
         ),
         Move::Write(client) => {
             submit(
+                rt,
                 client,
-                Command::Assign(at(alloc, &[1])?, Val::Scalar(Scalar::Whole(7))),
+                Command::Assign(at(rt, alloc, &[1]), Val::Scalar(Scalar::Whole(7))),
             )
         }
-        Move::Delete(client) => submit(client, Command::Delete(at(alloc, &[1])?)),
+        Move::Delete(client) => submit(rt, client, Command::Delete(at(rt, alloc, &[1]))),
     }
 }
 
-fn submit(client: usize, command: Command) -> Result<Act, Refusal> {
-    Ok(Act::Submit { client, command })
+fn submit(rt: &impl Abort, client: usize, command: Command) -> Act {
+    Act::Submit { client, command }
 }
 
-fn ask(alloc: Global, token: usize, kind: Kind, indices: &[u64]) -> Result<Act, Refusal> {
-    let place = at(alloc, indices)?;
-    Ok(Act::Ask {
+fn ask(rt: &impl Abort, alloc: Global, token: usize, kind: Kind, indices: &[u64]) -> Act {
+    let place = at(rt, alloc, indices);
+    Act::Ask {
         token,
         probe: Probe { kind, place },
-    })
+    }
 }
 
 /// The expression of the list, or of an index in it.
-fn at(alloc: Global, indices: &[u64]) -> Result<Expr, Refusal> {
-    let list = Hop::Get(Key::new(alloc, "l")?);
-    let mut steps = vec![in alloc; list]?;
+fn at(rt: &impl Abort, alloc: Global, indices: &[u64]) -> Expr {
+    let list = Hop::Get(Key::new(alloc, "l").expect(rt, "a key"));
+    let mut steps = vec![in alloc; list].expect(rt, "memory");
     for index in indices {
-        steps.push(Hop::Idx(*index))?;
+        steps.push(Hop::Idx(*index)).expect(rt, "memory");
     }
-    Ok(Expr::new(steps))
+    Expr::new(steps)
 }

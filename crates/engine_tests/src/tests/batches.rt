@@ -4,7 +4,7 @@ use super::playing::{Token, Told, Turn, on_new};
 use super::*;
 
 #[test]
-fn a_queue_of_one_slot(rt: HostRuntime) -> Result<(), Fail> {
+fn a_queue_of_one_slot(rt: HostRuntime) {
     const TURNS: &[Turn] = &[
         Turn::Assign(0, 1, Ok(1)),
         Turn::Assign(0, 2, Err(Refusal::QueueFull)),
@@ -13,11 +13,11 @@ fn a_queue_of_one_slot(rt: HostRuntime) -> Result<(), Fail> {
         Turn::Assign(0, 3, Ok(2)),
     ];
     let alloc = rt.alloc();
-    on_new(&rt, alloc, config(alloc, 1, 4)?, TURNS)
+    on_new(&rt, alloc, config(&rt, alloc, 1, 4), TURNS)
 }
 
 #[test]
-fn a_step_takes_no_more_than_a_batch(rt: HostRuntime) -> Result<(), Fail> {
+fn a_step_takes_no_more_than_a_batch(rt: HostRuntime) {
     const TURNS: &[Turn] = &[
         Turn::AssignAll(0, 3),
         Turn::Step(Step::Published(2)),
@@ -29,11 +29,11 @@ fn a_step_takes_no_more_than_a_batch(rt: HostRuntime) -> Result<(), Fail> {
         Turn::Step(Step::Idle),
     ];
     let alloc = rt.alloc();
-    on_new(&rt, alloc, config(alloc, 4, 2)?, TURNS)
+    on_new(&rt, alloc, config(&rt, alloc, 4, 2), TURNS)
 }
 
 #[test]
-fn a_batch_has_up_to_256_items(rt: HostRuntime) -> Result<(), Fail> {
+fn a_batch_has_up_to_256_items(rt: HostRuntime) {
     const TURNS: &[Turn] = &[
         Turn::AssignAll(1, 300),
         Turn::Step(Step::Published(256)),
@@ -44,11 +44,11 @@ fn a_batch_has_up_to_256_items(rt: HostRuntime) -> Result<(), Fail> {
         Turn::Read(Token::Client(1), "a", Some(300), 300),
     ];
     let alloc = rt.alloc();
-    on_new(&rt, alloc, config(alloc, 300, 256)?, TURNS)
+    on_new(&rt, alloc, config(&rt, alloc, 300, 256), TURNS)
 }
 
 #[test]
-fn each_client_gets_its_own_answers(rt: HostRuntime) -> Result<(), Fail> {
+fn each_client_gets_its_own_answers(rt: HostRuntime) {
     const TURNS: &[Turn] = &[
         Turn::Assign(0, 1, Ok(1)),
         Turn::Assign(1, 2, Ok(1)),
@@ -64,5 +64,5 @@ fn each_client_gets_its_own_answers(rt: HostRuntime) -> Result<(), Fail> {
         Turn::Read(Token::Reader, "a", Some(4), 4),
     ];
     let alloc = rt.alloc();
-    on_new(&rt, alloc, config(alloc, 8, 8)?, TURNS)
+    on_new(&rt, alloc, config(&rt, alloc, 8, 8), TURNS)
 }

@@ -68,30 +68,22 @@ pub struct Stage<'a, N: EngineName> {
 }
 
 /// Opens an engine of this configuration, and plays these turns on it.
-pub fn on_new<R: Wait + Abort>(
-    rt: &R,
-    alloc: Global,
-    config: Config,
-    turns: &[Turn],
-) -> Result<(), Fail> {
-    let parts = prepare(alloc, config)?;
+pub fn on_new<R: Wait + Abort>(rt: &R, alloc: Global, config: Config, turns: &[Turn]) {
+    let parts = prepare(alloc, config).expect(rt, "an engine");
     on_parts::<Brand, R>(rt, alloc, parts, turns)
 }
 
-fn on_parts<N: EngineName, R: Wait + Abort>(
-    rt: &R,
-    alloc: Global,
-    parts: Parts,
-    turns: &[Turn],
-) -> Result<(), Fail>
+fn on_parts<N: EngineName, R: Wait + Abort>(rt: &R, alloc: Global, parts: Parts, turns: &[Turn])
     requires book { parts.opened.seen.book ≡ N.book }
     requires own { parts.config.own ≡ N.own }
     requires table { in_order parts.config.members ≡ N.table }
 {
-    let (mut writer, mut clients, mut readers) = open::<N>(rt, alloc, parts)?;
-    let result = with_reader(rt, alloc, &mut writer, &mut clients, &mut readers, turns);
+    let (mut writer, mut clients, mut readers) = open::<N>(rt, alloc, parts).expect(
+        rt,
+        "an engine",
+    );
+    with_reader(rt, alloc, &mut writer, &mut clients, &mut readers, turns);
     let _final = close(rt, writer, clients);
-    result
 }
 
 fn with_reader<N: EngineName, R: Wait + Abort>(
@@ -101,17 +93,16 @@ fn with_reader<N: EngineName, R: Wait + Abort>(
     clients: &mut Vec<Client<N>>,
     readers: &mut Vec<ReaderToken<N>>,
     turns: &[Turn],
-) -> Result<(), Fail> {
-    let mut reader = readers.pop().ok_or("a reader")?;
+) {
+    let mut reader = readers.pop().expect(rt, "a reader");
     let mut stage = Stage {
         writer,
         clients,
         reader: &mut reader,
     };
     for turn in turns {
-        take_turn(rt, alloc, &mut stage, *turn)?;
+        take_turn(rt, alloc, &mut stage, *turn);
     }
-    Ok(())
 }
 
 /// Plays a turn.
@@ -120,100 +111,101 @@ fn take_turn<N: EngineName, R: Wait + Abort>(
     alloc: Global,
     stage: &mut Stage<N>,
     turn: Turn,
-) -> Result<(), Fail> {
+) {
     match turn {
         Turn::Assign(client, number, want) => {
-            assert_eq!(rt; assign(rt, alloc, stage, client, number)?, want);
+            assert_eq!(rt; assign(rt, alloc, stage, client, number), want);
         }
         Turn::AssignAll(client, count) => {
             for number in 1..=count {
-                let serial = assign(rt, alloc, stage, client, i64::from(number))?;
+                let serial = assign(rt, alloc, stage, client, i64::from(number));
                 assert_eq!(rt; serial, Ok(u64::from(number)));
             }
         }
         Turn::DeleteHead(client, want) => {
-            assert_eq!(rt; delete_head(rt, alloc, stage, client)?, want);
+            assert_eq!(rt; delete_head(rt, alloc, stage, client), want);
         }
         Turn::Deliver(client, counter, want) => {
-            assert_eq!(rt; deliver(rt, alloc, stage, client, counter)?, want);
+            assert_eq!(rt; deliver(rt, alloc, stage, client, counter), want);
         }
         Turn::Step(want) => assert_eq!(rt; stage.writer.step(rt, alloc), want),
-        Turn::Poll(client, of, want) => assert_eq!(rt; poll(stage, client, of)?, want),
+        Turn::Poll(client, of, want) => assert_eq!(rt; poll(rt, stage, client, of), want),
         Turn::TicketOf(client, serial, want) => {
-            assert_eq!(rt; has_ticket(stage, client, serial)?, want);
+            assert_eq!(rt; has_ticket(rt, stage, client, serial), want);
         }
         Turn::Read(token, key, want, length) => {
-            assert_eq!(rt; number_at(alloc, stage, token, key)?, want);
-            assert_eq!(rt; seen_len(stage, token)?, length);
+            assert_eq!(rt; number_at(rt, alloc, stage, token, key), want);
+            assert_eq!(rt; seen_len(rt, stage, token), length);
         }
         Turn::Keys(token, count, length) => {
-            assert_eq!(rt; keys(alloc, stage, token)?, count);
-            assert_eq!(rt; seen_len(stage, token)?, length);
+            assert_eq!(rt; keys(rt, alloc, stage, token), count);
+            assert_eq!(rt; seen_len(rt, stage, token), length);
         }
         Turn::Learn(token, of, length) => {
-            learn(stage, token, of)?;
-            assert_eq!(rt; seen_len(stage, token)?, length);
+            learn(rt, stage, token, of);
+            assert_eq!(rt; seen_len(rt, stage, token), length);
         }
     }
-    Ok(())
 }
 
-fn client_of<'a, N: EngineName>(
+fn client_of<'a, N: EngineName, A: Abort>(
+    rt: &A,
     stage: &'a mut Stage<'_, N>,
     number: usize,
-) -> Result<&'a mut Client<N>, Fail> {
-    Ok(stage.clients.get_mut(number).ok_or("no such client")?)
+) -> &'a mut Client<N> {
+    stage.clients.get_mut(number).expect(rt, "no such client")
 }
 
 /// A client assigns a number at the key `a`: the serial of its ticket, or why it is refused.
-fn assign<N: EngineName, R: Wait>(
+fn assign<N: EngineName, R: Wait + Abort>(
     rt: &R,
     alloc: Global,
     stage: &mut Stage<N>,
     client: usize,
     number: i64,
-) -> Result<Result<u64, Refusal>, Fail> {
-    let client = client_of(stage, client)?;
-    let command = Command::Assign(at(alloc, "a")?, Val::Scalar(Scalar::Whole(number)));
-    Ok(
-        client
-            .submit(rt, alloc, command)
-            .map(|ticket| ticket.serial),
-    )
+) -> Result<u64, Refusal> {
+    let client = client_of(rt, stage, client);
+    let command = Command::Assign(
+        at(alloc, "a").expect(rt, "an expression"),
+        Val::Scalar(Scalar::Whole(number)),
+    );
+
+    client
+        .submit(rt, alloc, command)
+        .map(|ticket| ticket.serial)
 }
 
 /// A client deletes at the head of the root's list.
-fn delete_head<N: EngineName, R: Wait>(
+fn delete_head<N: EngineName, R: Wait + Abort>(
     rt: &R,
     alloc: Global,
     stage: &mut Stage<N>,
     client: usize,
-) -> Result<Result<u64, Refusal>, Fail> {
-    let client = client_of(stage, client)?;
-    let command = Command::Delete(Expr::root(alloc).idx(0)?);
-    Ok(
-        client
-            .submit(rt, alloc, command)
-            .map(|ticket| ticket.serial),
-    )
+) -> Result<u64, Refusal> {
+    let client = client_of(rt, stage, client);
+    let command = Command::Delete(Expr::root(alloc).idx(0).expect(rt, "an expression"));
+
+    client
+        .submit(rt, alloc, command)
+        .map(|ticket| ticket.serial)
 }
 
 /// A client delivers the operation of replica 2 with this counter.
-fn deliver<N: EngineName, R: Wait>(
+fn deliver<N: EngineName, R: Wait + Abort>(
     rt: &R,
     alloc: Global,
     stage: &mut Stage<N>,
     client: usize,
     counter: u32,
-) -> Result<Result<u64, Refusal>, Fail> {
-    let client = client_of(stage, client)?;
-    let op = op_of_two(alloc, counter)?;
-    Ok(client.deliver(rt, alloc, op).map(|ticket| ticket.serial))
+) -> Result<u64, Refusal> {
+    let client = client_of(rt, stage, client);
+    let op = op_of_two(rt, alloc, counter);
+    client.deliver(rt, alloc, op).map(|ticket| ticket.serial)
 }
 
-fn op_of_two(alloc: Global, number: u32) -> Result<Shared<Op>, Refusal> {
+fn op_of_two(rt: &impl Abort, alloc: Global, number: u32) -> Shared<Op> {
     let counter = u64::from(number);
-    let place = field(alloc, "b")?;
+    let place = field(alloc, "b").expect(rt, "a place");
     let mutation = Mutation::Assign(Val::Scalar(Scalar::Whole(i64::from(number))));
     op(
         alloc,
@@ -222,109 +214,122 @@ fn op_of_two(alloc: Global, number: u32) -> Result<Shared<Op>, Refusal> {
         place,
         mutation,
     )
+    .expect(rt, "an operation")
 }
 
-fn ticket(of: (usize, u64)) -> Result<Ticket, Fail> {
-    Ok(Ticket {
-        replica: ReplicaId::new(1).ok_or("numbered 0")?,
+fn ticket(rt: &impl Abort, of: (usize, u64)) -> Ticket {
+    Ticket {
+        replica: ReplicaId::new(1).expect(rt, "numbered 0"),
         client: of.0,
         serial: of.1,
-    })
+    }
 }
 
-fn poll<N: EngineName>(
+fn poll<N: EngineName, A: Abort>(
+    rt: &A,
     stage: &mut Stage<N>,
     client: usize,
     of: (usize, u64),
-) -> Result<Told, Fail> {
-    let client = stage.clients.get_mut(client).ok_or("no such client")?;
-    Ok(match client.poll(&ticket(of)?) {
+) -> Told {
+    let client = stage.clients.get_mut(client).expect(rt, "no such client");
+    match client.poll(&ticket(rt, of)) {
         Err(Refusal::Foreign) => Told::Foreign,
-        Err(_) => return Err("a poll is refused as Foreign alone".into()),
+        Err(_) => panic!(rt; "a poll is refused as Foreign alone"),
         Ok(None) => Told::Nothing,
         Ok(Some(Reply::Made(id, position))) => Told::Made(id.counter, position),
         Ok(Some(Reply::Kept(length))) => Told::Kept(length),
         Ok(Some(Reply::Known(length))) => Told::Known(length),
         Ok(Some(Reply::Refused(why, length))) => Told::Refused(why, length),
-    })
-}
-
-/// Whether the client has a ticket of the serial; its serial is then that one.
-fn has_ticket<N: EngineName>(
-    stage: &mut Stage<N>,
-    client: usize,
-    serial: u64,
-) -> Result<bool, Fail> {
-    let client = client_of(stage, client)?;
-    match client.ticket_of(serial) {
-        Ok(ticket) => Ok(ticket.serial == serial),
-        Err(Refusal::Foreign) => Ok(false),
-        Err(_) => Err("a serial is refused as Foreign alone".into()),
     }
 }
 
-fn ask<N: EngineName>(
+/// Whether the client has a ticket of the serial; its serial is then that one.
+fn has_ticket<N: EngineName, A: Abort>(
+    rt: &A,
+    stage: &mut Stage<N>,
+    client: usize,
+    serial: u64,
+) -> bool {
+    let client = client_of(rt, stage, client);
+    match client.ticket_of(serial) {
+        Ok(ticket) => ticket.serial == serial,
+        Err(Refusal::Foreign) => false,
+        Err(_) => panic!(rt; "a serial is refused as Foreign alone"),
+    }
+}
+
+fn ask<N: EngineName, A: Abort>(
+    rt: &A,
     alloc: Global,
     stage: &mut Stage<N>,
     token: Token,
     question: &Question,
-) -> Result<Reading, Fail> {
+) -> Reading {
     match token {
-        Token::Reader => Ok(stage.reader.ask(alloc, question)?),
+        Token::Reader => stage.reader.ask(alloc, question).expect(rt, "an answer"),
         Token::Client(number) => {
-            let client = stage.clients.get_mut(number).ok_or("no such client")?;
-            Ok(client.ask(alloc, question)?)
+            let client = stage.clients.get_mut(number).expect(rt, "no such client");
+            client.ask(alloc, question).expect(rt, "an answer")
         }
     }
 }
 
 /// The number at a key of the document, if there is one.
-fn number_at<N: EngineName>(
+fn number_at<N: EngineName, A: Abort>(
+    rt: &A,
     alloc: Global,
     stage: &mut Stage<N>,
     token: Token,
     key: &str,
-) -> Result<Option<i64>, Fail> {
-    let question = Question::Values(at(alloc, key)?);
-    let Reading::Values(values) = ask(alloc, stage, token, &question)? else {
-        return Err("no values".into());
+) -> Option<i64> {
+    let question = Question::Values(at(alloc, key).expect(rt, "an expression"));
+    let Reading::Values(values) = ask(rt, alloc, stage, token, &question) else {
+        panic!(rt; "no values");
     };
     match values.first() {
-        None => Ok(None),
-        Some((_, Scalar::Whole(number))) => Ok(Some(*number)),
-        Some(_) => Err("no number".into()),
+        None => None,
+        Some((_, Scalar::Whole(number))) => Some(*number),
+        Some(_) => panic!(rt; "no number"),
     }
 }
 
 /// How many keys the document has.
-fn keys<N: EngineName>(alloc: Global, stage: &mut Stage<N>, token: Token) -> Result<usize, Fail> {
+fn keys<N: EngineName, A: Abort>(
+    rt: &A,
+    alloc: Global,
+    stage: &mut Stage<N>,
+    token: Token,
+) -> usize {
     let question = Question::Keys(Expr::root(alloc));
-    let Reading::Keys(keys) = ask(alloc, stage, token, &question)? else {
-        return Err("no keys".into());
+    let Reading::Keys(keys) = ask(rt, alloc, stage, token, &question) else {
+        panic!(rt; "no keys");
     };
-    Ok(keys.len())
+    keys.len()
 }
 
-fn seen_len<N: EngineName>(stage: &Stage<N>, token: Token) -> Result<usize, Fail> {
+fn seen_len<N: EngineName, A: Abort>(rt: &A, stage: &Stage<N>, token: Token) -> usize {
     match token {
-        Token::Reader => Ok(stage.reader.seen_len()),
+        Token::Reader => stage.reader.seen_len(),
         Token::Client(number) => {
-            let client = stage.clients.get(number).ok_or("no such client")?;
-            Ok(client.seen_len())
+            let client = stage.clients.get(number).expect(rt, "no such client");
+            client.seen_len()
         }
     }
 }
 
 /// The reader learns the notice of an answer.
-fn learn<N: EngineName>(stage: &mut Stage<N>, token: Token, of: (usize, u64)) -> Result<(), Fail> {
-    let from = stage.clients.get(of.0).ok_or("no such client")?;
-    let notice = from.notice_of(&ticket(of)?)?.ok_or("no answer")?.again();
+fn learn<N: EngineName, A: Abort>(rt: &A, stage: &mut Stage<N>, token: Token, of: (usize, u64)) {
+    let from = stage.clients.get(of.0).expect(rt, "no such client");
+    let notice = from
+        .notice_of(&ticket(rt, of))
+        .expect(rt, "not refused")
+        .expect(rt, "no answer")
+        .again();
     match token {
         Token::Reader => stage.reader.learn(&notice),
         Token::Client(number) => {
-            let client = stage.clients.get_mut(number).ok_or("no such client")?;
+            let client = stage.clients.get_mut(number).expect(rt, "no such client");
             client.learn(&notice);
         }
     }
-    Ok(())
 }

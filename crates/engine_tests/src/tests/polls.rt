@@ -4,7 +4,7 @@ use super::playing::{Token, Told, Turn, on_new};
 use super::*;
 
 #[test]
-fn a_new_engine_is_empty(rt: HostRuntime) -> Result<(), Fail> {
+fn a_new_engine_is_empty(rt: HostRuntime) {
     const TURNS: &[Turn] = &[
         Turn::Keys(Token::Reader, 0, 0),
         Turn::Keys(Token::Client(0), 0, 0),
@@ -12,11 +12,11 @@ fn a_new_engine_is_empty(rt: HostRuntime) -> Result<(), Fail> {
         Turn::Step(Step::Idle),
     ];
     let alloc = rt.alloc();
-    on_new(&rt, alloc, config(alloc, 4, 4)?, TURNS)
+    on_new(&rt, alloc, config(&rt, alloc, 4, 4), TURNS)
 }
 
 #[test]
-fn who_knows_of_an_answer_reads_what_was_written(rt: HostRuntime) -> Result<(), Fail> {
+fn who_knows_of_an_answer_reads_what_was_written(rt: HostRuntime) {
     const TURNS: &[Turn] = &[
         Turn::Assign(0, 1, Ok(1)),
         Turn::Poll(0, (0, 1), Told::Nothing),
@@ -31,11 +31,11 @@ fn who_knows_of_an_answer_reads_what_was_written(rt: HostRuntime) -> Result<(), 
         Turn::Step(Step::Idle),
     ];
     let alloc = rt.alloc();
-    on_new(&rt, alloc, config(alloc, 4, 4)?, TURNS)
+    on_new(&rt, alloc, config(&rt, alloc, 4, 4), TURNS)
 }
 
 #[test]
-fn who_knows_nothing_reads_what_is_published(rt: HostRuntime) -> Result<(), Fail> {
+fn who_knows_nothing_reads_what_is_published(rt: HostRuntime) {
     const TURNS: &[Turn] = &[
         Turn::Assign(0, 1, Ok(1)),
         Turn::Step(Step::Published(1)),
@@ -43,11 +43,11 @@ fn who_knows_nothing_reads_what_is_published(rt: HostRuntime) -> Result<(), Fail
         Turn::Read(Token::Client(1), "a", Some(1), 1),
     ];
     let alloc = rt.alloc();
-    on_new(&rt, alloc, config(alloc, 4, 4)?, TURNS)
+    on_new(&rt, alloc, config(&rt, alloc, 4, 4), TURNS)
 }
 
 #[test]
-fn a_refused_command_changes_nothing(rt: HostRuntime) -> Result<(), Fail> {
+fn a_refused_command_changes_nothing(rt: HostRuntime) {
     const TURNS: &[Turn] = &[
         Turn::DeleteHead(1, Ok(1)),
         Turn::Step(Step::Published(1)),
@@ -55,11 +55,11 @@ fn a_refused_command_changes_nothing(rt: HostRuntime) -> Result<(), Fail> {
         Turn::Keys(Token::Client(1), 0, 0),
     ];
     let alloc = rt.alloc();
-    on_new(&rt, alloc, config(alloc, 4, 4)?, TURNS)
+    on_new(&rt, alloc, config(&rt, alloc, 4, 4), TURNS)
 }
 
 #[test]
-fn a_refusal_names_a_length_that_its_client_had_seen(rt: HostRuntime) -> Result<(), Fail> {
+fn a_refusal_names_a_length_that_its_client_had_seen(rt: HostRuntime) {
     const TURNS: &[Turn] = &[
         Turn::Assign(0, 1, Ok(1)),
         Turn::Step(Step::Published(1)),
@@ -69,11 +69,11 @@ fn a_refusal_names_a_length_that_its_client_had_seen(rt: HostRuntime) -> Result<
         Turn::Poll(0, (0, 2), Told::Refused(Refusal::AtHead, 1)),
     ];
     let alloc = rt.alloc();
-    on_new(&rt, alloc, config(alloc, 4, 4)?, TURNS)
+    on_new(&rt, alloc, config(&rt, alloc, 4, 4), TURNS)
 }
 
 #[test]
-fn only_the_own_tickets_are_answered(rt: HostRuntime) -> Result<(), Fail> {
+fn only_the_own_tickets_are_answered(rt: HostRuntime) {
     const TURNS: &[Turn] = &[
         Turn::Assign(0, 1, Ok(1)),
         Turn::Step(Step::Published(1)),
@@ -88,11 +88,11 @@ fn only_the_own_tickets_are_answered(rt: HostRuntime) -> Result<(), Fail> {
         Turn::TicketOf(1, 1, false),
     ];
     let alloc = rt.alloc();
-    on_new(&rt, alloc, config(alloc, 4, 4)?, TURNS)
+    on_new(&rt, alloc, config(&rt, alloc, 4, 4), TURNS)
 }
 
 #[test]
-fn serials_end(rt: HostRuntime) -> Result<(), Fail> {
+fn serials_end(rt: HostRuntime) {
     const TURNS: &[Turn] = &[
         Turn::Assign(0, 1, Ok(1)),
         // The queue is full too, which is tested later.
@@ -105,13 +105,13 @@ fn serials_end(rt: HostRuntime) -> Result<(), Fail> {
     let alloc = rt.alloc();
     let config = Config {
         serials: 1,
-        ..config(alloc, 1, 4)?
+        ..config(&rt, alloc, 1, 4)
     };
     on_new(&rt, alloc, config, TURNS)
 }
 
 #[test]
-fn operations_of_peers_wait_until_they_are_ready(rt: HostRuntime) -> Result<(), Fail> {
+fn operations_of_peers_wait_until_they_are_ready(rt: HostRuntime) {
     const TURNS: &[Turn] = &[
         Turn::Deliver(1, 2, Ok(1)),
         Turn::Step(Step::Published(1)),
@@ -128,5 +128,5 @@ fn operations_of_peers_wait_until_they_are_ready(rt: HostRuntime) -> Result<(), 
         Turn::Poll(0, (0, 1), Told::Made(3, 2)),
     ];
     let alloc = rt.alloc();
-    on_new(&rt, alloc, config(alloc, 4, 4)?, TURNS)
+    on_new(&rt, alloc, config(&rt, alloc, 4, 4), TURNS)
 }

@@ -47,22 +47,22 @@ enum Ended {
 }
 
 /// An engine of replica 1 alone, with one reader, whose steps take one submission.
-fn alone(alloc: Global, clients: u32) -> Result<Config, Refusal> {
-    Ok(Config {
+fn alone(rt: &impl Abort, alloc: Global, clients: u32) -> Config {
+    Config {
         own: 1,
-        members: vec![in alloc; 1]?,
+        members: vec![in alloc; 1].expect(rt, "memory"),
         clients,
         readers: 1,
         queue: 1,
         batch: 1,
         serials: 4_000,
-    })
+    }
 }
 
 #[test]
-fn a_reader_without_pause_never_sees_less(rt: HostRuntime) -> Result<(), Fail> {
+fn a_reader_without_pause_never_sees_less(rt: HostRuntime) {
     let alloc = rt.alloc();
-    let parts = prepare(alloc, alone(alloc, 1)?)?;
+    let parts = prepare(alloc, alone(&rt, alloc, 1)).expect(&rt, "an engine");
     publishes_meanwhile::<Brand, _>(&rt, alloc, parts)
 }
 
@@ -70,18 +70,20 @@ fn publishes_meanwhile<N: EngineName + Send + Sync, R: Threads + Wait + Abort + 
     rt: &R,
     alloc: Global,
     parts: Parts,
-) -> Result<(), Fail>
+)
     requires book { parts.opened.seen.book ≡ N.book }
     requires own { parts.config.own ≡ N.own }
     requires table { in_order parts.config.members ≡ N.table }
 {
-    let (mut writer, mut clients, mut readers) = open::<N>(rt, alloc, parts)?;
-    let result = match (clients.first_mut(), readers.first_mut()) {
+    let (mut writer, mut clients, mut readers) = open::<N>(rt, alloc, parts).expect(
+        rt,
+        "an engine",
+    );
+    match (clients.first_mut(), readers.first_mut()) {
         (Some(client), Some(reader)) => publish_while_read(rt, alloc, &mut writer, client, reader),
-        _ => Err("no client".into()),
+        _ => panic!(rt; "no client"),
     };
     let _final = close(rt, writer, clients);
-    result
 }
 
 /// Makes the list; then one thread publishes, while another one reads the list.
@@ -91,31 +93,32 @@ fn publish_while_read<N: EngineName + Send + Sync, R: Threads + Wait + Abort + S
     writer: &mut Writer<N>,
     client: &mut Client<N>,
     reader: &mut ReaderToken<N>,
-) -> Result<(), Fail> {
+) {
     publish(
         rt,
         alloc,
         writer,
         client,
-        Command::Assign(at(alloc, "l")?, Val::EmptyList),
-    )?;
+        Command::Assign(at(alloc, "l").expect(rt, "an expression"), Val::EmptyList),
+    )
+    .expect(rt, "not refused");
     for _ in 0..ITEMS {
         publish(
             rt,
             alloc,
             writer,
             client,
-            Command::InsertAfter(head(alloc)?, Val::EmptyMap),
-        )?;
+            Command::InsertAfter(head(rt, alloc), Val::EmptyMap),
+        )
+        .expect(rt, "not refused");
     }
     let (published, read) = join(
         rt,
         move || publish_all(rt, alloc, writer, client),
         move || read_all(alloc, reader),
     );
-    assert_eq!(rt; published?, Ended::Done);
-    assert_eq!(rt; read?, Ended::Done);
-    Ok(())
+    assert_eq!(rt; published.expect(rt, "not refused"), Ended::Done);
+    assert_eq!(rt; read.expect(rt, "not refused"), Ended::Done);
 }
 
 /// Submits a command, which the writer publishes by itself.
@@ -134,8 +137,12 @@ fn publish<N: EngineName, R: Wait>(
 }
 
 /// The head of the list.
-fn head(alloc: Global) -> Result<Expr, Refusal> {
-    Ok(Expr::root(alloc).get(alloc, "l")?.idx(0)?)
+fn head(rt: &impl Abort, alloc: Global) -> Expr {
+    Expr::root(alloc)
+        .get(alloc, "l")
+        .expect(rt, "a place")
+        .idx(0)
+        .expect(rt, "an expression")
 }
 
 /// Publishes numbers at a key, one after another.
@@ -193,9 +200,9 @@ fn count_items<N: EngineName>(
 }
 
 #[test]
-fn eight_clients_crowd_one_slot(rt: HostRuntime) -> Result<(), Fail> {
+fn eight_clients_crowd_one_slot(rt: HostRuntime) {
     let alloc = rt.alloc();
-    let parts = prepare(alloc, alone(alloc, CLIENTS as u32)?)?;
+    let parts = prepare(alloc, alone(&rt, alloc, CLIENTS as u32)).expect(&rt, "an engine");
     crowd::<Brand, _>(&rt, alloc, parts)
 }
 
@@ -203,17 +210,19 @@ fn crowd<N: EngineName + Send + Sync, R: Threads + Wait + Abort + Sync>(
     rt: &R,
     alloc: Global,
     parts: Parts,
-) -> Result<(), Fail>
+)
     requires book { parts.opened.seen.book ≡ N.book }
     requires own { parts.config.own ≡ N.own }
     requires table { in_order parts.config.members ≡ N.table }
 {
-    let (mut writer, mut clients, mut readers) = open::<N>(rt, alloc, parts)?;
-    let result = write_and_learn(rt, alloc, &mut writer, &mut clients, &mut readers);
+    let (mut writer, mut clients, mut readers) = open::<N>(rt, alloc, parts).expect(
+        rt,
+        "an engine",
+    );
+    write_and_learn(rt, alloc, &mut writer, &mut clients, &mut readers);
     let last = close(rt, writer, clients);
-    result?;
+
     assert_whole(rt, &last);
-    Ok(())
 }
 
 /// Asserts that all that the clients submitted is published, each client's in order, and that nothing is left.
@@ -232,10 +241,10 @@ fn write_and_learn<N: EngineName + Send + Sync, R: Threads + Wait + Abort + Sync
     writer: &mut Writer<N>,
     clients: &mut Vec<Client<N>>,
     readers: &mut Vec<ReaderToken<N>>,
-) -> Result<(), Fail> {
+) {
     assert_eq!(rt; write_at_once(rt, alloc, writer, clients), Ended::Done);
-    let first = first_notice(clients)?;
-    let reader = readers.get_mut(0).ok_or("a reader")?;
+    let first = first_notice(rt, clients);
+    let reader = readers.get_mut(0).expect(rt, "a reader");
     learn_late(rt, alloc, reader, &writer.notice(), &first)
 }
 
@@ -315,42 +324,41 @@ fn learn_late<N: EngineName, R: Abort>(
     reader: &mut ReaderToken<N>,
     whole: &Notice<N>,
     first: &Notice<N>,
-) -> Result<(), Fail> {
+) {
     assert_eq!(rt; reader.seen_len(), 0);
     reader.learn(whole);
     assert_eq!(rt; reader.seen_len(), SUBMITTED);
-    assert_eq!(rt; greatest(alloc, reader)?, 800);
+    assert_eq!(rt; greatest(rt, alloc, reader), 800);
     assert_eq!(rt; reader.seen_len(), SUBMITTED);
     reader.learn(first);
     assert_eq!(rt; reader.seen_len(), SUBMITTED);
-    assert_eq!(rt; greatest(alloc, reader)?, 800);
-    Ok(())
+    assert_eq!(rt; greatest(rt, alloc, reader), 800);
 }
 
 /// The greatest counter that a reader is shown of one replica's operations 1, 2, 3 and so on, which is how many there are.
-fn greatest<N: EngineName>(alloc: Global, reader: &mut ReaderToken<N>) -> Result<u64, Refusal> {
-    match reader.ask(alloc, &Question::Vector)? {
-        Reading::Vector(vector) => Ok(vector.greatest()),
-        _ => Ok(0),
+fn greatest<N: EngineName, A: Abort>(rt: &A, alloc: Global, reader: &mut ReaderToken<N>) -> u64 {
+    match reader.ask(alloc, &Question::Vector).expect(rt, "an answer") {
+        Reading::Vector(vector) => vector.greatest(),
+        _ => 0,
     }
 }
 
 /// The notice of the history with one entry, which came with the answer to some client's first serial.
-fn first_notice<N: EngineName>(clients: &Vec<Client<N>>) -> Result<Notice<N>, Fail> {
-    let replica = ReplicaId::new(1).ok_or("numbered 0")?;
+fn first_notice<N: EngineName, A: Abort>(rt: &A, clients: &Vec<Client<N>>) -> Notice<N> {
+    let replica = ReplicaId::new(1).expect(rt, "numbered 0");
     for (number, client) in clients.iter().enumerate() {
         let ticket = Ticket {
             replica,
             client: number,
             serial: 1,
         };
-        if let Some(notice) = client.notice_of(&ticket)? {
+        if let Some(notice) = client.notice_of(&ticket).expect(rt, "not refused") {
             if notice.len() == 1 {
-                return Ok(notice.again());
+                return notice.again();
             }
         }
     }
-    Err("no notice of length 1".into())
+    panic!(rt; "no notice of length 1")
 }
 
 /// Whether the history has each serial of a client, in order.

@@ -17,9 +17,9 @@ use value::{Scalar, Val};
 const EACH: u64 = 40;
 
 #[test]
-fn two_clients_write_while_a_reader_asks(rt: HostRuntime) -> Result<(), Fail> {
+fn two_clients_write_while_a_reader_asks(rt: HostRuntime) {
     let alloc = rt.alloc();
-    let parts = prepare(alloc, config(alloc, 2, 3)?)?;
+    let parts = prepare(alloc, config(&rt, alloc, 2, 3)).expect(&rt, "an engine");
     in_threads::<Brand, _>(&rt, alloc, parts)
 }
 
@@ -27,13 +27,16 @@ fn in_threads<N: EngineName + Send + Sync, R: Threads + Wait + Abort + Sync>(
     rt: &R,
     alloc: Global,
     parts: Parts,
-) -> Result<(), Fail>
+)
     requires book { parts.opened.seen.book ≡ N.book }
     requires own { parts.config.own ≡ N.own }
     requires table { in_order parts.config.members ≡ N.table }
 {
-    let (mut writer, mut clients, mut readers) = open::<N>(rt, alloc, parts)?;
-    let result = together(
+    let (mut writer, mut clients, mut readers) = open::<N>(rt, alloc, parts).expect(
+        rt,
+        "an engine",
+    );
+    together(
         rt,
         alloc,
         &mut writer,
@@ -41,10 +44,9 @@ fn in_threads<N: EngineName + Send + Sync, R: Threads + Wait + Abort + Sync>(
         readers.as_mut_slice(),
     );
     let Final { history, left } = close(rt, writer, clients);
-    result?;
+
     assert_eq!(rt; history.len() as u64, 2 * EACH);
     assert_eq!(rt; left, 0);
-    Ok(())
 }
 
 /// Each of two clients writes, while the writer steps and the reader asks.
@@ -54,15 +56,14 @@ fn together<N: EngineName + Send + Sync, R: Threads + Wait + Abort + Sync>(
     writer: &mut Writer<N>,
     clients: &mut [Client<N>],
     readers: &mut [ReaderToken<N>],
-) -> Result<(), Fail> {
-    let reader = readers.first_mut().ok_or("a reader")?;
-    let (first, rest) = clients.split_first_mut().ok_or("a client")?;
-    let second = rest.first_mut().ok_or("a second client")?;
+) {
+    let reader = readers.first_mut().expect(rt, "a reader");
+    let (first, rest) = clients.split_first_mut().expect(rt, "a client");
+    let second = rest.first_mut().expect(rt, "a second client");
     let ((_, grows), (one, two)) = run(rt, alloc, writer, reader, first, second);
     assert!(rt; one && two);
     assert!(rt; grows);
     assert_eq!(rt; reader.seen_len() as u64, 2 * EACH);
-    Ok(())
 }
 
 /// Whether the reader saw only growing histories, and each client read back what it wrote.

@@ -32,13 +32,13 @@ enum Saw {
 }
 
 #[test]
-fn batches_appear_whole(rt: HostRuntime) -> Result<(), Fail> {
+fn batches_appear_whole(rt: HostRuntime) {
     let alloc = rt.alloc();
     let config = Config {
         serials: SUBMITTED,
-        ..config(alloc, SUBMITTED, BATCH)?
+        ..config(&rt, alloc, SUBMITTED, BATCH)
     };
-    let parts = prepare(alloc, config)?;
+    let parts = prepare(alloc, config).expect(&rt, "an engine");
     in_batches::<Brand, _>(&rt, alloc, parts)
 }
 
@@ -46,18 +46,20 @@ fn in_batches<N: EngineName + Send + Sync, R: Threads + Wait + Abort + Sync>(
     rt: &R,
     alloc: Global,
     parts: Parts,
-) -> Result<(), Fail>
+)
     requires book { parts.opened.seen.book ≡ N.book }
     requires own { parts.config.own ≡ N.own }
     requires table { in_order parts.config.members ≡ N.table }
 {
-    let (mut writer, mut clients, mut readers) = open::<N>(rt, alloc, parts)?;
-    let result = match (clients.first_mut(), readers.first_mut()) {
+    let (mut writer, mut clients, mut readers) = open::<N>(rt, alloc, parts).expect(
+        rt,
+        "an engine",
+    );
+    match (clients.first_mut(), readers.first_mut()) {
         (Some(client), Some(reader)) => step_while_read(rt, alloc, &mut writer, client, reader),
-        _ => Err("no client".into()),
+        _ => panic!(rt; "no client"),
     };
     let _final = close(rt, writer, clients);
-    result
 }
 
 /// Submits all commands; then one thread steps, while another one reads.
@@ -67,9 +69,9 @@ fn step_while_read<N: EngineName + Send + Sync, R: Threads + Wait + Abort + Sync
     writer: &mut Writer<N>,
     client: &mut Client<N>,
     reader: &mut ReaderToken<N>,
-) -> Result<(), Fail> {
+) {
     for number in 0..SUBMITTED {
-        submit(rt, alloc, client, number)?;
+        submit(rt, alloc, client, number);
     }
     let (steps, saw) = join(
         rt,
@@ -77,20 +79,18 @@ fn step_while_read<N: EngineName + Send + Sync, R: Threads + Wait + Abort + Sync
         move || read_all(alloc, reader),
     );
     assert_eq!(rt; steps, STEPS);
-    assert_eq!(rt; saw?, Saw::WholeBatches);
-    Ok(())
+    assert_eq!(rt; saw.expect(rt, "not refused"), Saw::WholeBatches);
 }
 
-fn submit<N: EngineName, R: Wait>(
+fn submit<N: EngineName, R: Wait + Abort>(
     rt: &R,
     alloc: Global,
     client: &mut Client<N>,
     number: u32,
-) -> Result<(), Refusal> {
+) {
     let value = Val::Scalar(Scalar::Whole(i64::from(number)));
-    let command = Command::Assign(at(alloc, "a")?, value);
-    let _ticket = client.submit(rt, alloc, command)?;
-    Ok(())
+    let command = Command::Assign(at(alloc, "a").expect(rt, "an expression"), value);
+    let _ticket = client.submit(rt, alloc, command).expect(rt, "a ticket");
 }
 
 /// Steps until nothing is left. Returns how many steps answered a whole batch, 0 if one did anything else.

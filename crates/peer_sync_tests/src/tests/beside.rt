@@ -26,14 +26,14 @@ const HAS_NOTHING: &[Row] = &[
 
 /// A replica that the operation before named and this one doesn't has the counter 0.
 #[test]
-fn a_vector_may_name_less_than_the_one_before(rt: HostRuntime) -> Result<(), Fail> {
+fn a_vector_may_name_less_than_the_one_before(rt: HostRuntime) {
     const ACTS: &[&[Row]] = &[&[(One, Receive(FOUR, 1, 4, 176, None))], HAS_NOTHING];
     on_others(&rt, rt.alloc(), 16, ACTS)
 }
 
 /// A line of profile 1 has its whole vector, whatever came before.
 #[test]
-fn a_line_of_profile_1_stands_alone(rt: HostRuntime) -> Result<(), Fail> {
+fn a_line_of_profile_1_stands_alone(rt: HostRuntime) {
     const MIXED: &str = r#"["op2",[1,1],[],[["m",0]],"key",["a","A"]]
 ["op2",[2,1],[[1,1]],[["m",0]],"key",["a","B"]]
 ["op2",[2,2],[],[["m",0]],"key",["a","C"]]
@@ -45,7 +45,7 @@ fn a_line_of_profile_1_stands_alone(rt: HostRuntime) -> Result<(), Fail> {
 
 /// A pair that changes nothing makes a bad line, and what comes before it stays.
 #[test]
-fn a_pair_that_changes_nothing_is_bad(rt: HostRuntime) -> Result<(), Fail> {
+fn a_pair_that_changes_nothing_is_bad(rt: HostRuntime) {
     const SAME: &str = r#"["op2",[1,1],[],[["m",0]],"key",["a","A"]]
 ["op2",[2,1],[[1,1]],[["m",0]],"key",["a","B"]]
 ["op2",[2,2],[],[["m",0]],"key",["a","C"]]

@@ -40,32 +40,25 @@ const HELLOS: [&str; 6] = [
 
 /// A cut within a line stops there, and the whole lines before it are received, of a bundle as it is sent.
 #[test]
-fn a_cut_stops_after_the_last_whole_line(rt: HostRuntime) -> Result<(), Fail> {
+fn a_cut_stops_after_the_last_whole_line(rt: HostRuntime) {
     assert_eq!(rt; SENT.text.len(), 281);
     for length in 0..=281 {
-        receive_cut(&rt, rt.alloc(), &SENT, length)?;
+        receive_cut(&rt, rt.alloc(), &SENT, length);
     }
-    Ok(())
 }
 
 /// The same for a bundle of profile 1.
 #[test]
-fn a_cut_stops_in_profile_1_too(rt: HostRuntime) -> Result<(), Fail> {
+fn a_cut_stops_in_profile_1_too(rt: HostRuntime) {
     assert_eq!(rt; ALONE.text.len(), 276);
     for length in 0..=276 {
-        receive_cut(&rt, rt.alloc(), &ALONE, length)?;
+        receive_cut(&rt, rt.alloc(), &ALONE, length);
     }
-    Ok(())
 }
 
 /// Asserts what a new engine receives of the first `length` bytes of the five lines.
-fn receive_cut<R: Wait + Abort>(
-    rt: &R,
-    alloc: Global,
-    bundle: &Bundle,
-    length: usize,
-) -> Result<(), Fail> {
-    let cut = bundle.text.get(..length).ok_or("no such cut")?;
+fn receive_cut<R: Wait + Abort>(rt: &R, alloc: Global, bundle: &Bundle, length: usize) {
+    let cut = bundle.text.get(..length).expect(rt, "no such cut");
     let (whole, bytes) = whole_lines(bundle, length);
     let stopped = if bytes == length {
         None
@@ -76,7 +69,7 @@ fn receive_cut<R: Wait + Abort>(
         0 => (0, engine::Step::Idle),
         count => (1, engine::Step::Published(count)),
     };
-    let said = HELLOS.get(whole).ok_or("no such hello")?;
+    let said = HELLOS.get(whole).expect(rt, "no such hello");
     on_two(
         rt,
         alloc,

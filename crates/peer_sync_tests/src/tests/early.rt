@@ -3,23 +3,25 @@
 use fixtures::{counted, field, id_of};
 use ids::Refusal;
 use operation::{Mutation, Op, Shared};
-use std::alloc::{AllocError, Global};
+use std::alloc::Global;
+use std::process::Abort;
 
 /// The operation of replica 2 with this counter, which deletes a key and depends on replica 3's operation with the counter before.
-pub fn early_op(alloc: Global, counter: u64) -> Result<Shared<Op>, Refusal> {
+pub fn early_op(rt: &impl Abort, alloc: Global, counter: u64) -> Shared<Op> {
     let op = Op {
-        id: id_of((counter, 2))?,
-        deps: counted(alloc, &[0, 0, counter.saturating_sub(1)])?,
-        place: field(alloc, "a")?,
+        id: id_of((counter, 2)).expect(rt, "an id"),
+        deps: counted(alloc, &[0, 0, counter.saturating_sub(1)]).expect(rt, "a vector"),
+        place: field(alloc, "a").expect(rt, "a place"),
         mutation: Mutation::Delete,
     };
-    Ok(Shared::new(alloc, op)?)
+    Shared::new(alloc, op).expect(rt, "memory")
 }
 
 /// The line of the first operation of this replica, which deletes a key.
-pub fn first_line(alloc: Global, replica: u32) -> Result<String, AllocError> {
+pub fn first_line(rt: &impl Abort, alloc: Global, replica: u32) -> String {
     format!(in alloc;
         r#"["op",[1,{replica}],[],[["m",0]],"a",["d"]]
 "#
     )
+    .expect(rt, "memory")
 }

@@ -45,7 +45,7 @@ const APART: &[Row] = &[
 ];
 
 #[test]
-fn concurrent_values_stand_side_by_side(rt: HostRuntime) -> Result<(), Fail> {
+fn concurrent_values_stand_side_by_side(rt: HostRuntime) {
     const BOTH: Turn = Show(KEY, Values(&[((2, 1), "B"), ((2, 2), "C")]));
     const ALL: &str = r#"["hello",[[1,2],[2,2]]]
 "#;
@@ -62,7 +62,7 @@ fn concurrent_values_stand_side_by_side(rt: HostRuntime) -> Result<(), Fail> {
 }
 
 #[test]
-fn answers_leave_out_what_the_hello_covers(rt: HostRuntime) -> Result<(), Fail> {
+fn answers_leave_out_what_the_hello_covers(rt: HostRuntime) {
     // The history of engine 1 is A, B, C; that of engine 2 is A, C, B.
     const A_C_B: &str = r#"["op2",[1,1],[],[["m",0]],"key",["a","A"]]
 ["op2",[2,2],[[1,1]],[["m",0]],"key",["a","C"]]
@@ -85,7 +85,7 @@ fn answers_leave_out_what_the_hello_covers(rt: HostRuntime) -> Result<(), Fail> 
 }
 
 #[test]
-fn runs_of_concurrent_inserts_stay_together(rt: HostRuntime) -> Result<(), Fail> {
+fn runs_of_concurrent_inserts_stay_together(rt: HostRuntime) {
     const L: &[To] = &[Key("l")];
     const HEAD: &[To] = &[Key("l"), Index(0)];
     const ONE: &[To] = &[Key("l"), Index(1)];
@@ -118,7 +118,7 @@ fn runs_of_concurrent_inserts_stay_together(rt: HostRuntime) -> Result<(), Fail>
 }
 
 #[test]
-fn what_is_written_beneath_a_deleted_map_stays(rt: HostRuntime) -> Result<(), Fail> {
+fn what_is_written_beneath_a_deleted_map_stays(rt: HostRuntime) {
     const COLORS: &[To] = &[Key("colors")];
     const BLUE: &[To] = &[Key("colors"), Key("blue")];
     const GREEN: &[To] = &[Key("colors"), Key("green")];
@@ -158,7 +158,7 @@ fn what_is_written_beneath_a_deleted_map_stays(rt: HostRuntime) -> Result<(), Fa
 }
 
 #[test]
-fn a_map_and_a_list_stand_under_one_key(rt: HostRuntime) -> Result<(), Fail> {
+fn a_map_and_a_list_stand_under_one_key(rt: HostRuntime) {
     const K: &[To] = &[Key("k")];
     const ROOT_LINE: &str = r#"["op2",[1,1],[],[],0,["a",{}]]
 "#;
@@ -182,7 +182,7 @@ fn a_map_and_a_list_stand_under_one_key(rt: HostRuntime) -> Result<(), Fail> {
 }
 
 #[test]
-fn an_assign_fills_an_item_that_was_deleted_apart(rt: HostRuntime) -> Result<(), Fail> {
+fn an_assign_fills_an_item_that_was_deleted_apart(rt: HostRuntime) {
     const LIST_AT: &[To] = &[Key("shopping")];
     const HEAD: &[To] = &[Key("shopping"), Index(0)];
     const ITEM: &[To] = &[Key("shopping"), Index(2)];

@@ -8,7 +8,7 @@ use super::playing::Turn::{Dropped, Take, TakeAllEarly, TakeEarly};
 use super::*;
 
 #[test]
-fn the_first_fault_of_an_operation_decides(rt: HostRuntime) -> Result<(), Fail> {
+fn the_first_fault_of_an_operation_decides(rt: HostRuntime) {
     // An insert at a field, with a counter that skips one.
     const SKIPS: &str = r#"["op",[9,2],[[1,7]],[["m",0]],"a",["i",1]]
 "#;
@@ -34,7 +34,7 @@ fn the_first_fault_of_an_operation_decides(rt: HostRuntime) -> Result<(), Fail> 
 }
 
 #[test]
-fn no_more_than_4096_operations_wait(rt: HostRuntime) -> Result<(), Fail> {
+fn no_more_than_4096_operations_wait(rt: HostRuntime) {
     const OF_TWO: &str = r#"["op",[1,2],[],[["m",0]],"a",["d"]]
 "#;
     const OF_THREE: &str = r#"["op",[1,3],[],[["m",0]],"a",["d"]]

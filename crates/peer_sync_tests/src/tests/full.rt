@@ -20,7 +20,7 @@ use std::sync::Wait;
 
 /// A full queue stops lines of profile 1 too, at each receipt again.
 #[test]
-fn a_full_queue_stops_at_its_line(rt: HostRuntime) -> Result<(), Fail> {
+fn a_full_queue_stops_at_its_line(rt: HostRuntime) {
     const ACTS: &[&[Row]] = &[
         &[
             (
@@ -45,7 +45,7 @@ fn a_full_queue_stops_at_its_line(rt: HostRuntime) -> Result<(), Fail> {
 
 /// After a stop at a full queue, steps and a new hello bring the rest, until nothing is missing.
 #[test]
-fn new_hellos_bring_what_a_full_queue_left(rt: HostRuntime) -> Result<(), Fail> {
+fn new_hellos_bring_what_a_full_queue_left(rt: HostRuntime) {
     const LIST_AT: &[To] = &[Key("shopping")];
     const HEAD: &[To] = &[Key("shopping"), Index(0)];
     const ITEM: &[To] = &[Key("shopping"), Index(2)];
@@ -95,7 +95,7 @@ fn new_hellos_bring_what_a_full_queue_left(rt: HostRuntime) -> Result<(), Fail> 
 /// The rest of a bundle is read relative to the empty vector: as another operation, whose counter doesn't come after its vector. The answer
 /// to a new hello has the whole vector.
 #[test]
-fn what_is_left_of_a_bundle_may_be_refused(rt: HostRuntime) -> Result<(), Fail> {
+fn what_is_left_of_a_bundle_may_be_refused(rt: HostRuntime) {
     const LEFT: &str = r#"["op2",[2,2],[],[["m",0]],"key",["a","C"]]
 "#;
     const ANSWERED: &str = r#"["op2",[2,2],[[1,1]],[["m",0]],"key",["a","C"]]
@@ -118,7 +118,7 @@ fn what_is_left_of_a_bundle_may_be_refused(rt: HostRuntime) -> Result<(), Fail> 
 
 /// Relative to the empty vector no pair has the counter 0: the rest of a bundle may be a bad line.
 #[test]
-fn what_is_left_of_a_bundle_may_be_bad(rt: HostRuntime) -> Result<(), Fail> {
+fn what_is_left_of_a_bundle_may_be_bad(rt: HostRuntime) {
     const LEFT: &str = r#"["op2",[1,3],[[1,0]],[["m",0]],"z",["d"]]
 "#;
     const ANSWERED: &str = r#"["op2",[1,3],[],[["m",0]],"z",["d"]]
@@ -142,7 +142,7 @@ fn what_is_left_of_a_bundle_may_be_bad(rt: HostRuntime) -> Result<(), Fail> {
 /// The rest of a bundle may also pass every test, as an operation that no engine made: the vector of replica 3's write no longer names
 /// replica 2, so the write doesn't take the place of B. It has the id of the true one, so no later exchange repairs that.
 #[test]
-fn what_is_left_of_a_bundle_may_be_kept(rt: HostRuntime) -> Result<(), Fail> {
+fn what_is_left_of_a_bundle_may_be_kept(rt: HostRuntime) {
     const KEY: &[To] = &[Key("key")];
     const APART: &str = r#"["op2",[1,1],[],[["m",0]],"key",["a","A"]]
 ["op2",[1,2],[],[["m",0]],"key",["a","B"]]
@@ -185,7 +185,7 @@ fn what_is_left_of_a_bundle_may_be_kept(rt: HostRuntime) -> Result<(), Fail> {
 /// If there is no peer to say hello to, a bundle goes on after the line at which the queue was full, once the writer has stepped. All its
 /// operations are then as they were written.
 #[test]
-fn a_receipt_goes_on(rt: HostRuntime) -> Result<(), Fail> {
+fn a_receipt_goes_on(rt: HostRuntime) {
     const ACTS: &[&[Row]] = &[
         &[
             (One, ReceiveAll(FOUR, 1)),

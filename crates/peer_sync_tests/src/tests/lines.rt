@@ -11,7 +11,7 @@ use super::*;
 use engine::Step::{Idle, Published};
 
 #[test]
-fn a_new_engine_names_nothing(rt: HostRuntime) -> Result<(), Fail> {
+fn a_new_engine_names_nothing(rt: HostRuntime) {
     const ACTS: &[&[Row]] = &[
         &[
             (One, Hello("[\"hello\",[]]\n")),
@@ -29,7 +29,7 @@ fn a_new_engine_names_nothing(rt: HostRuntime) -> Result<(), Fail> {
 }
 
 #[test]
-fn the_first_fault_of_a_hello_decides(rt: HostRuntime) -> Result<(), Fail> {
+fn the_first_fault_of_a_hello_decides(rt: HostRuntime) {
     const ACTS: &[&[Row]] = &[
         &[
             (One, Write(Assign(&[], Map))),
@@ -54,7 +54,7 @@ fn the_first_fault_of_a_hello_decides(rt: HostRuntime) -> Result<(), Fail> {
 }
 
 #[test]
-fn what_comes_before_a_bad_line_stays(rt: HostRuntime) -> Result<(), Fail> {
+fn what_comes_before_a_bad_line_stays(rt: HostRuntime) {
     const FIRST_ALONE: &str = r#"["op",[1,1],[],[],0,["a",{}]]
 "#;
     const CUT: &str = r#"["op",[1,1],[],[],0,["a",{}]]

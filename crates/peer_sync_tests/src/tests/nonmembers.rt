@@ -19,7 +19,7 @@ const TWO: Numbers = Numbers {
 };
 
 #[test]
-fn engines_that_know_only_themselves(rt: HostRuntime) -> Result<(), Fail> {
+fn engines_that_know_only_themselves(rt: HostRuntime) {
     const KEY: &[To] = &[Key("key")];
     const A: &str = r#"["op2",[1,1],[],[["m",0]],"key",["a","A"]]
 "#;
@@ -73,7 +73,7 @@ const MOST_MEMBERS: &[u32] = &[
 ];
 
 #[test]
-fn no_more_than_256_replicas_write(rt: HostRuntime) -> Result<(), Fail> {
+fn no_more_than_256_replicas_write(rt: HostRuntime) {
     const ACTS: &[&[Row]] = &[&[
         (One, TakeFirsts(1001, 1192)),
         (One, TakeFirst(2000, Refused(Refusal::UnknownReplica, 192))),

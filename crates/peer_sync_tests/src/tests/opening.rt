@@ -44,12 +44,7 @@ fn config(alloc: Global, own: u32, members: &[u32], queue: u32) -> Result<Config
 }
 
 /// Opens engines 1 and 2 of the members 1, 2 and 3, with queues of this capacity, and plays these rows on them in order.
-pub fn on_two<R: Wait + Abort>(
-    rt: &R,
-    alloc: Global,
-    queue: u32,
-    acts: &[&[Row]],
-) -> Result<(), Fail> {
+pub fn on_two<R: Wait + Abort>(rt: &R, alloc: Global, queue: u32, acts: &[&[Row]]) {
     let opening = Opening {
         one: Numbers {
             own: 1,
@@ -65,12 +60,7 @@ pub fn on_two<R: Wait + Abort>(
 }
 
 /// The same with the engines 4 and 5, which know only themselves.
-pub fn on_others<R: Wait + Abort>(
-    rt: &R,
-    alloc: Global,
-    queue: u32,
-    acts: &[&[Row]],
-) -> Result<(), Fail> {
+pub fn on_others<R: Wait + Abort>(rt: &R, alloc: Global, queue: u32, acts: &[&[Row]]) {
     let opening = Opening {
         one: Numbers {
             own: 4,
@@ -86,13 +76,11 @@ pub fn on_others<R: Wait + Abort>(
 }
 
 /// Opens both engines in this way, and plays these rows on them in order.
-pub fn on_opened<R: Wait + Abort>(
-    rt: &R,
-    alloc: Global,
-    opening: Opening,
-    acts: &[&[Row]],
-) -> Result<(), Fail> {
-    let parts = prepare_engine(alloc, opening.one.own, opening.one.members, opening.queue)?;
+pub fn on_opened<R: Wait + Abort>(rt: &R, alloc: Global, opening: Opening, acts: &[&[Row]]) {
+    let parts = prepare_engine(alloc, opening.one.own, opening.one.members, opening.queue).expect(
+        rt,
+        "an engine",
+    );
     open_first::<Brand, R>(rt, alloc, parts, opening, acts)
 }
 
@@ -112,13 +100,16 @@ fn open_first<N: EngineName, R: Wait + Abort>(
     parts: Parts,
     opening: Opening,
     acts: &[&[Row]],
-) -> Result<(), Fail>
+)
     requires book { parts.opened.seen.book ≡ N.book }
     requires own { parts.config.own ≡ N.own }
     requires table { in_order parts.config.members ≡ N.table }
 {
-    let (mut writer, mut clients, mut readers) = open::<N>(rt, alloc, parts)?;
-    let result = match (clients.first_mut(), readers.first_mut()) {
+    let (mut writer, mut clients, mut readers) = open::<N>(rt, alloc, parts).expect(
+        rt,
+        "an engine",
+    );
+    match (clients.first_mut(), readers.first_mut()) {
         (Some(client), Some(reader)) => with_first(
             rt,
             alloc,
@@ -128,10 +119,9 @@ fn open_first<N: EngineName, R: Wait + Abort>(
             opening,
             acts,
         ),
-        _ => Err("no client".into()),
+        _ => panic!(rt; "no client"),
     };
     let _final = close(rt, writer, clients);
-    result
 }
 
 fn with_first<N: EngineName, R: Wait + Abort>(
@@ -142,7 +132,7 @@ fn with_first<N: EngineName, R: Wait + Abort>(
     reader: &mut ReaderToken<N>,
     opening: Opening,
     acts: &[&[Row]],
-) -> Result<(), Fail> {
+) {
     let mut one = Stage {
         own: opening.one.own,
         writer,
@@ -158,8 +148,11 @@ fn with_second<N: EngineName, R: Wait + Abort>(
     one: &mut Stage<N>,
     opening: Opening,
     acts: &[&[Row]],
-) -> Result<(), Fail> {
-    let parts = prepare_engine(alloc, opening.two.own, opening.two.members, opening.queue)?;
+) {
+    let parts = prepare_engine(alloc, opening.two.own, opening.two.members, opening.queue).expect(
+        rt,
+        "an engine",
+    );
     open_second::<N, Brand, R>(rt, alloc, one, parts, opening.two.own, acts)
 }
 
@@ -170,13 +163,16 @@ fn open_second<N: EngineName, M: EngineName, R: Wait + Abort>(
     parts: Parts,
     own: u32,
     acts: &[&[Row]],
-) -> Result<(), Fail>
+)
     requires book { parts.opened.seen.book ≡ M.book }
     requires own { parts.config.own ≡ M.own }
     requires table { in_order parts.config.members ≡ M.table }
 {
-    let (mut writer, mut clients, mut readers) = open::<M>(rt, alloc, parts)?;
-    let result = match (clients.first_mut(), readers.first_mut()) {
+    let (mut writer, mut clients, mut readers) = open::<M>(rt, alloc, parts).expect(
+        rt,
+        "an engine",
+    );
+    match (clients.first_mut(), readers.first_mut()) {
         (Some(client), Some(reader)) => on_both(
             rt,
             alloc,
@@ -187,10 +183,9 @@ fn open_second<N: EngineName, M: EngineName, R: Wait + Abort>(
             own,
             acts,
         ),
-        _ => Err("no client".into()),
+        _ => panic!(rt; "no client"),
     };
     let _final = close(rt, writer, clients);
-    result
 }
 
 fn on_both<N: EngineName, M: EngineName, R: Wait + Abort>(
@@ -202,7 +197,7 @@ fn on_both<N: EngineName, M: EngineName, R: Wait + Abort>(
     reader: &mut ReaderToken<M>,
     own: u32,
     acts: &[&[Row]],
-) -> Result<(), Fail> {
+) {
     let mut two = Stage {
         own,
         writer,

@@ -125,11 +125,10 @@ pub fn play<N: EngineName, M: EngineName, R: Wait + Abort>(
     one: &mut Stage<N>,
     two: &mut Stage<M>,
     acts: &[&[Row]],
-) -> Result<(), Fail> {
+) {
     for rows in acts {
-        play_act(rt, alloc, one, two, rows)?;
+        play_act(rt, alloc, one, two, rows);
     }
-    Ok(())
 }
 
 fn play_act<N: EngineName, M: EngineName, R: Wait + Abort>(
@@ -138,14 +137,13 @@ fn play_act<N: EngineName, M: EngineName, R: Wait + Abort>(
     one: &mut Stage<N>,
     two: &mut Stage<M>,
     rows: &[Row],
-) -> Result<(), Fail> {
+) {
     for (side, turn) in rows {
         match side {
-            Side::One => play_turn(rt, alloc, one, two, *turn)?,
-            Side::Two => play_turn(rt, alloc, two, one, *turn)?,
+            Side::One => play_turn(rt, alloc, one, two, *turn),
+            Side::Two => play_turn(rt, alloc, two, one, *turn),
         }
     }
-    Ok(())
 }
 
 /// Does a turn of one engine, which may get what the other has.
@@ -155,7 +153,7 @@ fn play_turn<N: EngineName, M: EngineName, R: Wait + Abort>(
     stage: &mut Stage<N>,
     other: &mut Stage<M>,
     turn: Turn,
-) -> Result<(), Fail> {
+) {
     match turn {
         Turn::Pull(hello, bundle) => pull(rt, alloc, stage, other, hello, bundle),
         turn => take_turn(rt, alloc, stage, turn),
@@ -170,8 +168,8 @@ fn pull<N: EngineName, M: EngineName, R: Wait + Abort>(
     from: &mut Stage<M>,
     want_hello: &str,
     want_bundle: &str,
-) -> Result<(), Fail> {
-    assert_hello(rt, alloc, to.reader, want_hello)?;
+) {
+    assert_hello(rt, alloc, to.reader, want_hello);
     assert_answer(rt, alloc, from.reader, want_hello, Ok(want_bundle));
     let received = receive(rt, alloc, to.client, want_bundle.as_bytes());
     assert_eq!(rt; received.stopped, None);
@@ -181,7 +179,6 @@ fn pull<N: EngineName, M: EngineName, R: Wait + Abort>(
         count => Step::Published(count as usize),
     };
     step(rt, alloc, to.writer, handled);
-    Ok(())
 }
 
 /// Plays a turn of one engine.
@@ -190,9 +187,9 @@ fn take_turn<N: EngineName, R: Wait + Abort>(
     alloc: Global,
     stage: &mut Stage<N>,
     turn: Turn,
-) -> Result<(), Fail> {
+) {
     match turn {
-        Turn::Write(writing) => write(rt, alloc, stage, writing)?,
+        Turn::Write(writing) => write(rt, alloc, stage, writing),
         Turn::Step(want) => step(rt, alloc, stage.writer, want),
         Turn::Receive(text, first_serial, submitted, bytes, stopped) => {
             let want = Received {
@@ -210,22 +207,21 @@ fn take_turn<N: EngineName, R: Wait + Abort>(
             stage.client,
             bundle,
             full,
-        )?,
+        ).expect(rt, "not refused"),
         Turn::ReadBack(file, submitted, stopped) => {
             let want = (submitted, stopped);
-            read_back(rt, alloc, stage.writer, stage.client, file, want)?;
+            read_back(rt, alloc, stage.writer, stage.client, file, want);
         }
-        Turn::Take(line, want) => take_line(rt, alloc, stage, line, want)?,
-        Turn::TakeFirst(replica, want) => take_first(rt, alloc, stage, replica, want)?,
-        Turn::TakeFirsts(first, last) => take_firsts(rt, alloc, stage, first, last)?,
-        Turn::TakeEarly(counter, want) => take_early(rt, alloc, stage, counter, want)?,
+        Turn::Take(line, want) => take_line(rt, alloc, stage, line, want),
+        Turn::TakeFirst(replica, want) => take_first(rt, alloc, stage, replica, want),
+        Turn::TakeFirsts(first, last) => take_firsts(rt, alloc, stage, first, last),
+        Turn::TakeEarly(counter, want) => take_early(rt, alloc, stage, counter, want),
         Turn::TakeAllEarly(first, last, want) => take_all_early(
             rt, alloc, stage, first, last, want,
-        )?,
+        ),
         Turn::Dropped(want) => assert_eq!(rt; stage.writer.dropped(), want),
-        turn => read(rt, alloc, stage.reader, turn)?,
+        turn => read(rt, alloc, stage.reader, turn),
     }
-    Ok(())
 }
 
 /// Makes the writer step, and asserts the result.
@@ -252,7 +248,7 @@ fn take_line<N: EngineName, R: Wait + Abort>(
     stage: &mut Stage<N>,
     line: &str,
     want: Told,
-) -> Result<(), Fail> {
+) {
     let received = receive(rt, alloc, stage.client, line.as_bytes());
     assert!(rt;
         received.submitted == 1 && received.stopped.is_none(),
@@ -268,8 +264,8 @@ fn take_first<N: EngineName, R: Wait + Abort>(
     stage: &mut Stage<N>,
     replica: u32,
     want: Told,
-) -> Result<(), Fail> {
-    let line = first_line(alloc, replica)?;
+) {
+    let line = first_line(rt, alloc, replica);
     take_line(rt, alloc, stage, line.as_str(), want)
 }
 
@@ -280,13 +276,12 @@ fn take_firsts<N: EngineName, R: Wait + Abort>(
     stage: &mut Stage<N>,
     first: u32,
     last: u32,
-) -> Result<(), Fail> {
+) {
     let mut length: u64 = 0;
     for replica in first..=last {
         length = length.saturating_add(1);
-        take_first(rt, alloc, stage, replica, Told::Kept(length))?;
+        take_first(rt, alloc, stage, replica, Told::Kept(length));
     }
-    Ok(())
 }
 
 /// Delivers the operations of these counters, as `take_early` does each.
@@ -297,11 +292,10 @@ fn take_all_early<N: EngineName, R: Wait + Abort>(
     first: u64,
     last: u64,
     want: Told,
-) -> Result<(), Fail> {
+) {
     for counter in first..=last {
-        take_early(rt, alloc, stage, counter, want)?;
+        take_early(rt, alloc, stage, counter, want);
     }
-    Ok(())
 }
 
 /// Delivers an operation of replica 2 that depends on one of replica 3, and asserts how the writer answers it.
@@ -311,21 +305,21 @@ fn take_early<N: EngineName, R: Wait + Abort>(
     stage: &mut Stage<N>,
     counter: u64,
     want: Told,
-) -> Result<(), Fail> {
-    let serial = deliver_early(rt, alloc, stage.client, counter)?;
+) {
+    let serial = deliver_early(rt, alloc, stage.client, counter);
     handle(rt, alloc, stage, serial, want)
 }
 
 /// Delivers that operation: its serial.
-fn deliver_early<N: EngineName, R: Wait>(
+fn deliver_early<N: EngineName, R: Wait + Abort>(
     rt: &R,
     alloc: Global,
     client: &mut Client<N>,
     counter: u64,
-) -> Result<u64, Refusal> {
-    let op = early_op(alloc, counter)?;
-    let ticket = client.deliver(rt, alloc, op)?;
-    Ok(ticket.serial)
+) -> u64 {
+    let op = early_op(rt, alloc, counter);
+    let ticket = client.deliver(rt, alloc, op).expect(rt, "a ticket");
+    ticket.serial
 }
 
 /// Steps, and asserts the reply to what was submitted under this serial.
@@ -335,11 +329,10 @@ fn handle<N: EngineName, R: Wait + Abort>(
     stage: &mut Stage<N>,
     serial: u64,
     want: Told,
-) -> Result<(), Fail> {
+) {
     step(rt, alloc, stage.writer, Step::Published(1));
-    let reply = poll(stage, serial)?;
+    let reply = poll(stage, serial).expect(rt, "an answer");
     assert!(rt; is_told(reply, want), "{reply:?}");
-    Ok(())
 }
 
 /// Whether this is the answer to a peer's operation.
@@ -368,29 +361,25 @@ fn write<N: EngineName, R: Wait + Abort>(
     alloc: Global,
     stage: &mut Stage<N>,
     writing: Writing,
-) -> Result<(), Fail> {
-    let command = command(alloc, writing)?;
-    stage.client.submit(rt, alloc, command)?;
+) {
+    let command = command(alloc, writing).expect(rt, "not refused");
+    stage
+        .client
+        .submit(rt, alloc, command)
+        .expect(rt, "a ticket");
     step(rt, alloc, stage.writer, Step::Published(1));
-    Ok(())
 }
 
 /// Plays a turn of a reader.
-fn read<N: EngineName>(
-    rt: &impl Abort,
-    alloc: Global,
-    reader: &mut ReaderToken<N>,
-    turn: Turn,
-) -> Result<(), Fail> {
+fn read<N: EngineName>(rt: &impl Abort, alloc: Global, reader: &mut ReaderToken<N>, turn: Turn) {
     match turn {
-        Turn::Hello(want) => assert_hello(rt, alloc, reader, want)?,
+        Turn::Hello(want) => assert_hello(rt, alloc, reader, want),
         Turn::Answer(said, want) => assert_answer(rt, alloc, reader, said, want),
-        Turn::Keep(said, from, to) => assert_kept(rt, alloc, reader, said, from, to)?,
+        Turn::Keep(said, from, to) => assert_kept(rt, alloc, reader, said, from, to),
         Turn::Seen(want) => assert_eq!(rt; reader.seen_len(), want),
-        Turn::Show(path, want) => assert_shown(rt, alloc, reader, path, want)?,
-        _ => return Err("no turn of a reader".into()),
+        Turn::Show(path, want) => assert_shown(rt, alloc, reader, path, want),
+        _ => panic!(rt; "no turn of a reader"),
     }
-    Ok(())
 }
 
 /// Compares the hello of a reader.
@@ -399,10 +388,9 @@ fn assert_hello<N: EngineName>(
     alloc: Global,
     reader: &mut ReaderToken<N>,
     want: &str,
-) -> Result<(), Refusal> {
-    let said = hello(alloc, reader)?;
+) {
+    let said = hello(alloc, reader).expect(rt, "a hello");
     assert_eq!(rt; said.as_slice(), want.as_bytes());
-    Ok(())
 }
 
 /// Asserts the answer to a hello, or why it is refused.

@@ -7,7 +7,6 @@ use fixtures::{Pair, pair_of};
 use ids::{OpId, Refusal};
 use std::alloc::Global;
 use std::process::Abort;
-use std::test::Fail;
 use value::{Key, Scalar};
 
 /// One step of an expression.
@@ -133,9 +132,8 @@ pub fn assert_shown<N: EngineName>(
     reader: &mut ReaderToken<N>,
     path: &[To],
     want: Shown,
-) -> Result<(), Fail> {
-    let question = question(expr(alloc, path)?, want);
+) {
+    let question = question(expr(alloc, path).expect(rt, "not refused"), want);
     let answer = reader.ask(alloc, &question);
     assert!(rt; is_wanted(&answer, want), "{answer:?}");
-    Ok(())
 }

@@ -11,7 +11,7 @@ use super::showing::To;
 use super::showing::To::Key;
 use super::*;
 use engine::{Client, EngineName, ReaderToken, Writer};
-use std::alloc::{AllocError, Global};
+use std::alloc::Global;
 use std::process::Abort;
 use std::sync::Wait;
 
@@ -105,33 +105,32 @@ const WHOLE: &str = r#"["op2",[1,1],[],[["m",0]],"key",["a","A"]]
 
 /// Each answer is given to the hello that was said before it, and kept after its length.
 #[test]
-fn answers_are_kept_with_their_lengths(rt: HostRuntime) -> Result<(), Fail> {
+fn answers_are_kept_with_their_lengths(rt: HostRuntime) {
     const ACTS: &[&[Row]] = &[KEPT, END];
     on_two(&rt, rt.alloc(), 16, ACTS)
 }
 
 /// An engine of another number that reads them back shows the same and says the same hello as the one that gave them.
 #[test]
-fn a_file_of_answers_is_read_back(rt: HostRuntime) -> Result<(), Fail> {
+fn a_file_of_answers_is_read_back(rt: HostRuntime) {
     const ACTS: &[&[Row]] = &[&[(One, ReadBack(FILE, 6, None))], END];
     on_others(&rt, rt.alloc(), 16, ACTS)
 }
 
 /// From a file that is cut anywhere, each whole line is read, including those of the answer that is cut, and nothing else.
 #[test]
-fn a_cut_file_keeps_its_whole_lines(rt: HostRuntime) -> Result<(), Fail> {
+fn a_cut_file_keeps_its_whole_lines(rt: HostRuntime) {
     assert_eq!(rt; FILE.len(), 304);
     for length in 0..=304 {
-        read_cut(&rt, rt.alloc(), length)?;
+        read_cut(&rt, rt.alloc(), length);
     }
-    Ok(())
 }
 
 /// Asserts what a new engine reads back of the first `length` bytes of the file.
-fn read_cut<R: Wait + Abort>(rt: &R, alloc: Global, length: usize) -> Result<(), Fail> {
-    let cut = FILE.get(..length).ok_or("no such cut")?;
+fn read_cut<R: Wait + Abort>(rt: &R, alloc: Global, length: usize) {
+    let cut = FILE.get(..length).expect(rt, "no such cut");
     let (whole, stopped) = whole_lines(length);
-    let said = HELLOS.get(whole).ok_or("no such hello")?;
+    let said = HELLOS.get(whole).expect(rt, "no such hello");
     on_others(
         rt,
         alloc,
@@ -161,7 +160,7 @@ fn whole_lines(length: usize) -> (usize, Option<(u64, Refusal)>) {
 /// Answers are bundles of their own: as one text, the second one would be read relative to the last line of the first, which has the vector
 /// that it says.
 #[test]
-fn answers_in_a_row_are_no_bundle(rt: HostRuntime) -> Result<(), Fail> {
+fn answers_in_a_row_are_no_bundle(rt: HostRuntime) {
     const IN_A_ROW: &str = r#"["op2",[1,1],[],[["m",0]],"key",["a","A"]]
 ["op2",[2,1],[[1,1]],[["m",0]],"key",["a","B"]]
 ["op2",[2,2],[[1,1]],[["m",0]],"key",["a","C"]]
@@ -186,20 +185,20 @@ pub fn assert_kept<N: EngineName>(
     said: &str,
     from: usize,
     to: usize,
-) -> Result<(), Refusal> {
-    let answered = answer(alloc, reader, said.as_bytes())?;
-    let kept = with_length(alloc, answered.as_slice())?;
+) {
+    let answered = answer(alloc, reader, said.as_bytes()).expect(rt, "an answer");
+    let kept = with_length(rt, alloc, answered.as_slice());
     assert_eq!(rt; Some(kept.as_slice()), FILE.as_bytes().get(from..to));
-    Ok(())
 }
 
 /// An answer after its length.
-fn with_length(alloc: Global, answered: &[u8]) -> Result<Vec<u8>, AllocError> {
-    let length = format!(in alloc; "{}\n", answered.len())?;
+fn with_length(rt: &impl Abort, alloc: Global, answered: &[u8]) -> Vec<u8> {
+    let length = format!(in alloc; "{}\n", answered.len()).expect(rt, "memory");
     let mut kept = Vec::new(alloc);
-    kept.extend_from_slice(length.as_str().as_bytes())?;
-    kept.extend_from_slice(answered)?;
-    Ok(kept)
+    kept.extend_from_slice(length.as_str().as_bytes())
+        .expect(rt, "memory");
+    kept.extend_from_slice(answered).expect(rt, "memory");
+    kept
 }
 
 /// Receives the answers of a file one after another, and steps until idle after each. Asserts how many operations are submitted, and where
@@ -211,7 +210,7 @@ pub fn read_back<N: EngineName, R: Wait + Abort>(
     client: &mut Client<N>,
     file: &str,
     want: (u64, Option<(u64, Refusal)>),
-) -> Result<(), Fail> {
+) {
     let mut rest = file;
     let mut submitted: u64 = 0;
     let mut stopped = None;
@@ -221,13 +220,12 @@ pub fn read_back<N: EngineName, R: Wait + Abort>(
         };
         assert_eq!(rt; stopped, None);
         let received = receive(rt, alloc, client, kept.as_bytes());
-        step_until_idle(rt, alloc, writer)?;
+        step_until_idle(rt, alloc, writer);
         submitted = submitted.saturating_add(received.submitted);
         stopped = received.stopped;
         rest = left;
     }
     assert!(rt; (submitted, stopped) == want, "of {file}");
-    Ok(())
 }
 
 /// The next answer of a file, which may have fewer bytes than its length says, and what is after it; `None` if its length is cut.
@@ -238,15 +236,11 @@ fn next_kept(file: &str) -> Option<(&str, &str)> {
 }
 
 /// Steps until there is nothing to do.
-fn step_until_idle<N: EngineName, R: Wait>(
-    rt: &R,
-    alloc: Global,
-    writer: &mut Writer<N>,
-) -> Result<(), Fail> {
+fn step_until_idle<N: EngineName, R: Wait + Abort>(rt: &R, alloc: Global, writer: &mut Writer<N>) {
     for _ in 0..6 {
         if writer.step(rt, alloc) == engine::Step::Idle {
-            return Ok(());
+            return;
         }
     }
-    Err("there is still something to do".into())
+    panic!(rt; "there is still something to do")
 }

@@ -13,23 +13,21 @@ use std::alloc::Global;
 use std::marker::Brand;
 use std::process::Abort;
 use std::sync::Wait;
-use std::test::Fail;
 use std::thread::{Threads, join, yield_now};
 
 #[test]
-fn a_queue_has_from_one_to_65536_slots(rt: HostRuntime) -> Result<(), Fail> {
+fn a_queue_has_from_one_to_65536_slots(rt: HostRuntime) {
     let alloc = rt.alloc();
     assert!(rt; matches!(Queue::new::<Brand>(alloc, 0), Err(Refusal::BadConfig)));
     assert!(rt; matches!(Queue::new::<Brand>(alloc, 65_537), Err(Refusal::BadConfig)));
     assert!(rt; Queue::new::<Brand>(alloc, 65_536).is_ok());
-    Ok(())
 }
 
 #[test]
-fn a_full_queue_gives_the_item_back(rt: HostRuntime) -> Result<(), Fail> {
+fn a_full_queue_gives_the_item_back(rt: HostRuntime) {
     let alloc = rt.alloc();
-    let mut taker = Queue::new::<Brand>(alloc, 1)?;
-    let mut sender = taker.sender()?;
+    let mut taker = Queue::new::<Brand>(alloc, 1).expect(&rt, "a value");
+    let mut sender = taker.sender().expect(&rt, "not refused");
     fill_and_empty(&rt, alloc, &mut taker, &mut sender)
 }
 
@@ -39,27 +37,30 @@ fn fill_and_empty<N: EngineName, R: Wait + Abort>(
     alloc: Global,
     taker: &mut Taker<N>,
     sender: &mut Sender<N>,
-) -> Result<(), Fail>
+)
     requires { view sender.old.pass ≡ sender_hand 0 [] }
 {
     assert!(rt; taker.take(rt).is_none());
-    assert!(rt; sender.send(rt, envelope(alloc, 1)?).is_ok());
-    let Err((why, back)) = sender.send(rt, envelope(alloc, 2)?) else {
-        return Err(Fail::from("the queue has one slot"));
+    assert!(rt;
+        sender
+            .send(rt, envelope(alloc, 1).expect(rt, "not refused"))
+            .is_ok()
+    );
+    let Err((why, back)) = sender.send(rt, envelope(alloc, 2).expect(rt, "not refused")) else {
+        panic!(rt; "the queue has one slot");
     };
     assert!(rt; why == Refusal::QueueFull && back.submission().serial == 2);
     assert!(rt; serial_taken(rt, taker) == Some(1));
     assert!(rt; sender.send(rt, back).is_ok());
     assert!(rt; serial_taken(rt, taker) == Some(2));
     assert!(rt; serial_taken(rt, taker).is_none());
-    Ok(())
 }
 
 #[test]
-fn a_client_sends_while_the_writer_takes(rt: HostRuntime) -> Result<(), Fail> {
+fn a_client_sends_while_the_writer_takes(rt: HostRuntime) {
     let alloc = rt.alloc();
-    let mut taker = Queue::new::<Brand>(alloc, 2)?;
-    let mut sender = taker.sender()?;
+    let mut taker = Queue::new::<Brand>(alloc, 2).expect(&rt, "a value");
+    let mut sender = taker.sender().expect(&rt, "not refused");
     let shared = &rt;
     let (sent, taken) = join(
         &rt,
@@ -67,7 +68,6 @@ fn a_client_sends_while_the_writer_takes(rt: HostRuntime) -> Result<(), Fail> {
         || take_all(shared, &mut taker, 100),
     );
     assert!(rt; sent.is_ok() && taken);
-    Ok(())
 }
 
 /// Sends submissions with the serials from 1 on, each again until there is room.
