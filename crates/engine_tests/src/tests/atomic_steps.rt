@@ -16,7 +16,6 @@ use ids::ReplicaId;
 use operation::Command;
 use orders::{go_on, schedule};
 use std::marker::Brand;
-use std::process::Abort;
 use std::sync::Wait;
 use value::{Scalar, Val};
 
@@ -77,7 +76,7 @@ struct Counted {
 }
 
 #[test]
-fn commands_and_questions_in_every_order(rt: HostRuntime) -> Result<(), Fail> {
+fn commands_and_questions_in_every_order(rt: HostRuntime) {
     const TURNS: Turns = [
         &[Atomic::Push(0), Atomic::Push(0)],
         &[Atomic::Push(1), Atomic::Push(1)],
@@ -85,11 +84,11 @@ fn commands_and_questions_in_every_order(rt: HostRuntime) -> Result<(), Fail> {
         &[Atomic::Enter, Atomic::Enter],
     ];
     // 12! / (2! 2! 6! 2!)
-    play_all(&rt, rt.alloc(), &TURNS, 83_160)
+    play_all(&rt, rt.alloc(), &TURNS, 83_160);
 }
 
 #[test]
-fn polls_in_every_order(rt: HostRuntime) -> Result<(), Fail> {
+fn polls_in_every_order(rt: HostRuntime) {
     const TURNS: Turns = [
         &[Atomic::Push(0), Atomic::Get(0)],
         &[Atomic::Push(1), Atomic::Get(1)],
@@ -97,54 +96,46 @@ fn polls_in_every_order(rt: HostRuntime) -> Result<(), Fail> {
         &[Atomic::Enter],
     ];
     // 11! / (2! 2! 6! 1!)
-    play_all(&rt, rt.alloc(), &TURNS, 13_860)
+    play_all(&rt, rt.alloc(), &TURNS, 13_860);
 }
 
 /// Plays every schedule of these turns, and asserts how many there are.
-fn play_all<R: Wait + Abort>(rt: &R, alloc: Global, turns: &Turns, count: u32) -> Result<(), Fail> {
+fn play_all<R: Wait + Abort>(rt: &R, alloc: Global, turns: &Turns, count: u32) {
     let mut choices = Vec::new(alloc);
     for number in 1..=count {
-        let steps = schedule(alloc, turns, &mut choices)?;
-        play(rt, alloc, &steps)?;
+        let steps = schedule(alloc, turns, &mut choices).expect(rt, "memory");
+        play(rt, alloc, &steps);
         assert_eq!(rt; go_on(&mut choices), number < count);
     }
-    Ok(())
 }
 
 /// Opens an engine, and does these atomic steps on it, and the last ones.
-fn play<R: Wait + Abort>(rt: &R, alloc: Global, steps: &[Atomic]) -> Result<(), Fail> {
+fn play<R: Wait + Abort>(rt: &R, alloc: Global, steps: &[Atomic]) {
     let parts = prepare(
         alloc,
         Config {
             own: 1,
-            members: vec![in alloc; 1]?,
+            members: vec![in alloc; 1].expect(rt, "memory"),
             clients: 2,
             readers: 1,
             queue: QUEUE as u32,
             batch: 1,
             serials: 2,
         },
-    )?;
-    play_in::<Brand, R>(rt, alloc, parts, steps)
+    )
+    .expect(rt, "not refused");
+    play_in::<Brand, R>(rt, alloc, parts, steps);
 }
 
-fn play_in<N: EngineName, R: Wait + Abort>(
-    rt: &R,
-    alloc: Global,
-    parts: Parts,
-    steps: &[Atomic],
-) -> Result<(), Fail>
+fn play_in<N: EngineName, R: Wait + Abort>(rt: &R, alloc: Global, parts: Parts, steps: &[Atomic])
     requires book { parts.opened.seen.book ≡ N.book }
     requires own { parts.config.own ≡ N.own }
     requires table { in_order parts.config.members ≡ N.table }
 {
-    let (mut writer, mut clients, mut readers) = open::<N>(rt, alloc, parts)?;
-    let result = match readers.pop() {
-        Some(mut reader) => play_with(rt, alloc, &mut writer, &mut clients, &mut reader, steps),
-        None => Err("no reader".into()),
-    };
+    let (mut writer, mut clients, mut readers) = open::<N>(rt, alloc, parts).expect(rt, "memory");
+    let mut reader = readers.pop().expect(rt, "a reader");
+    play_with(rt, alloc, &mut writer, &mut clients, &mut reader, steps);
     let _final = close(rt, writer, clients);
-    result
 }
 
 fn play_with<N: EngineName, R: Wait + Abort>(
@@ -154,20 +145,19 @@ fn play_with<N: EngineName, R: Wait + Abort>(
     clients: &mut Vec<Client<N>>,
     reader: &mut ReaderToken<N>,
     steps: &[Atomic],
-) -> Result<(), Fail> {
+) {
     let mut counted = Counted::default();
     for step in steps.iter().chain(LAST) {
         match *step {
-            Atomic::Push(client) => push(rt, alloc, clients, client, &mut counted)?,
-            Atomic::Get(client) => get(rt, clients, client, &counted)?,
-            Atomic::Enter => assert_eq!(rt; number(alloc, reader)?, counted.published),
-            Atomic::Take => take(rt, alloc, writer, &mut counted)?,
-            Atomic::Publish => publish(rt, writer, &mut counted)?,
-            Atomic::Set => set(writer, &mut counted)?,
+            Atomic::Push(client) => push(rt, alloc, clients, client, &mut counted),
+            Atomic::Get(client) => get(rt, clients, client, &counted),
+            Atomic::Enter => assert_eq!(rt; number(rt, alloc, reader), counted.published),
+            Atomic::Take => take(rt, alloc, writer, &mut counted),
+            Atomic::Publish => publish(rt, writer, &mut counted),
+            Atomic::Set => set(rt, writer, &mut counted),
         }
     }
     assert_eq!(rt; counted.answered, counted.pushed);
-    Ok(())
 }
 
 /// Pushes the next submission, and asserts that it is refused exactly when the queue is full.
@@ -177,27 +167,29 @@ fn push<N: EngineName, R: Wait + Abort>(
     clients: &mut Vec<Client<N>>,
     number: usize,
     counted: &mut Counted,
-) -> Result<(), Fail> {
-    let client = clients.get_mut(number).ok_or("no client")?;
+) {
+    let client = clients.get_mut(number).expect(rt, "a client");
     let next = counted.pushed.saturating_add(1);
-    let is_full = counted.pushed.saturating_sub(counted.taken) == QUEUE;
-    match client.submit(rt, alloc, assign(alloc, next)?) {
-        Err(Refusal::QueueFull) => assert!(rt; is_full),
-        Err(why) => return Err(why.into()),
-        Ok(_ticket) => {
-            assert!(rt; !is_full);
-            if let Some(by) = counted.pushed_by.get_mut(counted.pushed) {
-                *by = number;
-            }
-            counted.pushed = next;
-        }
+    let submitted = client.submit(rt, alloc, assign(rt, alloc, next));
+    if counted.pushed.saturating_sub(counted.taken) == QUEUE {
+        assert_eq!(rt; submitted.err(), Some(Refusal::QueueFull));
+        return;
     }
-    Ok(())
+    submitted.expect(rt, "not refused");
+    if let Some(by) = counted.pushed_by.get_mut(counted.pushed) {
+        *by = number;
+    }
+    counted.pushed = next;
 }
 
-fn assign(alloc: Global, number: usize) -> Result<Command, Refusal> {
+fn assign(rt: &impl Abort, alloc: Global, number: usize) -> Command {
     let number = i64::try_from(number).unwrap_or(i64::MAX);
-    Ok(Command::Assign(at(alloc, "a")?, Val::Scalar(Scalar::Whole(number))))
+    Command::Assign(at_key(rt, alloc), Val::Scalar(Scalar::Whole(number)))
+}
+
+/// The expression for the one key.
+fn at_key(rt: &impl Abort, alloc: Global) -> Expr {
+    at(alloc, "a").expect(rt, "an expression")
 }
 
 /// Takes and handles the oldest submission of the queue, if there is one.
@@ -206,34 +198,23 @@ fn take<N: EngineName, R: Wait + Abort>(
     alloc: Global,
     writer: &mut Writer<N>,
     counted: &mut Counted,
-) -> Result<(), Fail> {
-    if writer.held_len() > 0 {
-        return Err("what was taken isn't answered yet".into());
-    }
+) {
+    assert_eq!(rt; writer.held_len(), 0);
     writer.take_all(rt, alloc);
     let waited = counted.taken < counted.pushed;
     assert_eq!(rt; writer.held_len(), usize::from(waited));
     counted.taken = counted.taken.saturating_add(usize::from(waited));
-    Ok(())
 }
 
-fn publish<N: EngineName, R: Wait>(
-    rt: &R,
-    writer: &mut Writer<N>,
-    counted: &mut Counted,
-) -> Result<(), Fail> {
-    writer.publish_all(rt)?;
+fn publish<N: EngineName, R: Wait + Abort>(rt: &R, writer: &mut Writer<N>, counted: &mut Counted) {
+    writer.publish_all(rt).expect(rt, "memory");
     counted.published = counted.taken;
-    Ok(())
 }
 
-fn set<N: EngineName>(writer: &mut Writer<N>, counted: &mut Counted) -> Result<(), Fail> {
-    if !writer.is_all_published() {
-        return Err("what was taken isn't published yet".into());
-    }
+fn set<N: EngineName, R: Abort>(rt: &R, writer: &mut Writer<N>, counted: &mut Counted) {
+    assert!(rt; writer.is_all_published());
     writer.answer_all();
     counted.answered = counted.published;
-    Ok(())
 }
 
 /// Polls for each submission of a client, and asserts that the nth of all that were pushed made the nth entry, once it is answered.
@@ -242,45 +223,45 @@ fn get<N: EngineName, R: Abort>(
     clients: &mut Vec<Client<N>>,
     number: usize,
     counted: &Counted,
-) -> Result<(), Fail> {
-    let client = clients.get_mut(number).ok_or("no client")?;
+) {
+    let client = clients.get_mut(number).expect(rt, "a client");
     let mut serial = 0u64;
     for (position, by) in counted.pushed_by.iter().take(counted.pushed).enumerate() {
         if *by == number {
             serial = serial.saturating_add(1);
             let wanted = (position < counted.answered).then_some(position);
-            assert_eq!(rt; made_at(client, number, serial)?, wanted);
+            assert_eq!(rt; made_at(rt, client, number, serial), wanted);
         }
     }
-    Ok(())
 }
 
 /// The position at which the client's submission with this serial was made, if it is answered.
 fn made_at<N: EngineName>(
+    rt: &impl Abort,
     client: &mut Client<N>,
     number: usize,
     serial: u64,
-) -> Result<Option<usize>, Fail> {
+) -> Option<usize> {
     let ticket = Ticket {
-        replica: ReplicaId::new(1).ok_or("a replica")?,
+        replica: ReplicaId::new(1).expect(rt, "a replica"),
         client: number,
         serial,
     };
-    match client.poll(&ticket)? {
-        None => Ok(None),
-        Some(Reply::Made(_, position)) => Ok(usize::try_from(position).ok()),
-        Some(_) => Err("it wasn't made".into()),
+    match client.poll(&ticket).expect(rt, "its own ticket")? {
+        Reply::Made(_, position) => usize::try_from(position).ok(),
+        _ => panic!(rt; "it wasn't made"),
     }
 }
 
 /// The number at the key, 0 if nothing was assigned.
-fn number<N: EngineName>(alloc: Global, reader: &mut ReaderToken<N>) -> Result<usize, Fail> {
-    let Reading::Values(values) = reader.ask(alloc, &Question::Values(at(alloc, "a")?))? else {
-        return Err("no values".into());
+fn number<N: EngineName>(rt: &impl Abort, alloc: Global, reader: &mut ReaderToken<N>) -> usize {
+    let question = Question::Values(at_key(rt, alloc));
+    let Reading::Values(values) = reader.ask(alloc, &question).expect(rt, "a reading") else {
+        panic!(rt; "no values")
     };
     match values.as_slice() {
-        [] => Ok(0),
-        [(_, Scalar::Whole(number))] => Ok(usize::try_from(*number).unwrap_or(usize::MAX)),
-        _ => Err("another value".into()),
+        [] => 0,
+        [(_, Scalar::Whole(number))] => usize::try_from(*number).unwrap_or(usize::MAX),
+        _ => panic!(rt; "another value"),
     }
 }
