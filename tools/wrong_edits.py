@@ -1,7 +1,7 @@
 #!/usr/bin/env python3
 """wrong_edits.py [CRATE | CRATE/EDIT ..]: tries the wrong edits in crates/CRATE/wrong, which the prover must refuse, many in one check.
 
-Goes over the libraries that `rt ci` left in out/, so that comes first. For each crate:
+Goes over the libraries below, as `rt ci` proves them in a copy, in half a minute where it has passed. For each crate:
 
 1. Each edit names, by where its texts are, the functions whose bodies it changes. A round is one check, from nothing, of the functions that
    its edits change and of what these call; it has at most one edit for a function.
@@ -31,7 +31,8 @@ from concurrent.futures import ThreadPoolExecutor
 from dataclasses import dataclass, field
 from pathlib import Path
 
-TOP = Path(__file__).resolve().parent.parent
+from proved import TOP, below, copy_to, crates_below, kit, lines_of_crates, prove, rlib, words_of_check
+
 PARTS = ("src", "specs", "proofs")
 # Where results are kept: a folder of the user's alone, since a later run believes what stands there.
 KEPT = Path(os.environ.get("XDG_CACHE_HOME") or Path.home() / ".cache") / "jdoc-wrong-edits"
@@ -160,39 +161,6 @@ def owner_of(lines: list[str]) -> str:
 
 
 @functools.cache
-def uses() -> dict[str, list[str]]:
-    """For each crate of crates.txt the libraries that it names."""
-    lines = (it.split("#")[0] for it in (TOP / "crates.txt").read_text().splitlines())
-    return {it.split(":")[0].split()[0]: it.split(":")[1].split() for it in lines if it.strip()}
-
-
-def line_of(crate: str) -> str:
-    return next(it for it in (TOP / "crates.txt").read_text().splitlines() if re.match(rf"{crate}\b", it))
-
-
-def below(crate: str) -> list[str]:
-    """The repository's crates that this one uses, directly or indirectly."""
-    found: dict[str, None] = {}
-    names = [it for it in uses()[crate] if it in uses()]
-    while names:
-        name = names.pop()
-        if name not in found:
-            found[name] = None
-            names += [it for it in uses()[name] if it in uses()]
-    return sorted(found)
-
-
-def rlib(crate: str) -> Path:
-    return TOP / "crates" / crate / "out/rlib" / f"{crate}.rlib"
-
-
-@functools.cache
-def kit() -> Path:
-    page = subprocess.run(["rt", "doc"], stdout=subprocess.PIPE, text=True, check=True).stdout
-    return Path(page.strip()).parent
-
-
-@functools.cache
 def kit_sum() -> str:
     """What tells one toolchain from another: its name, and the compiler's size and time."""
     version = subprocess.run(["rt", "version"], stdout=subprocess.PIPE, text=True, check=True).stdout
@@ -200,42 +168,45 @@ def kit_sum() -> str:
     return f"{version} {found.st_size} {found.st_mtime_ns}"
 
 
-def words_of_check(crate: str) -> list[str]:
-    """The words of a check of this crate over the libraries that `rt ci` built."""
-    is_program = (TOP / "crates" / crate / "src/main.rt").is_file()
-    words = [str(kit() / "bin/rattle"), "check", "--crate-name", crate, "src/main.rt" if is_program else "src/lib.rt"]
-    for name in ["std", *uses()[crate]]:
-        words += ["--extern", f"{name}={rlib(name) if name in uses() else kit() / 'rlibs' / f'{name}.rlib'}"]
-    for folder in [kit() / "rlibs", *(rlib(it).parent for it in below(crate))]:
-        words += ["-L", f"dependency={folder}"]
-    words += ["--antt-project", str(kit() / "rattle/logic/antt-project.json"), "--logic-built", str(kit() / "logic_built")]
-    if " staticlib" in line_of(crate).split(":")[0]:
-        words += ["--crate-type", "staticlib"]
-    return [*words, "--jobs", "1"]
+@dataclass(frozen=True)
+class Crate:
+    """A crate, and the copy in which what is below it is proved."""
 
+    name: str
+    room: Path
 
-def check(texts: Texts, crate: str, words: list[str]) -> tuple[int, str]:
-    """The status of a check of these texts with these words, and what it says."""
-    with tempfile.TemporaryDirectory(prefix=f"wrong-edits-{crate}-") as room:
-        texts.write_to(Path(room))
-        try:
-            ran = subprocess.run([*words_of_check(crate), *words], cwd=room, stdin=subprocess.DEVNULL, stdout=subprocess.PIPE,
-                                 stderr=subprocess.STDOUT, encoding="utf-8", errors="replace", timeout=MAX_SECONDS, check=False)
-        except subprocess.TimeoutExpired:
-            return -1, f"it took more than {MAX_SECONDS} seconds"
-    return ran.returncode, ran.stdout
+    @property
+    def texts(self) -> Texts:
+        return Texts(TOP / "crates" / self.name)
 
+    def check(self, texts: Texts, words: list[str]) -> tuple[int, str]:
+        """The status of a check of these texts with these words, and what it says."""
+        with tempfile.TemporaryDirectory(prefix=f"wrong-edits-{self.name}-") as folder:
+            texts.write_to(Path(folder))
+            try:
+                ran = subprocess.run([*words_of_check(self.room, self.name), *words], cwd=folder, stdin=subprocess.DEVNULL,
+                                     stdout=subprocess.PIPE, stderr=subprocess.STDOUT, encoding="utf-8", errors="replace",
+                                     timeout=MAX_SECONDS, check=False)
+            except subprocess.TimeoutExpired:
+                return -1, f"it took more than {MAX_SECONDS} seconds"
+        return ran.returncode, ran.stdout
 
-@functools.cache
-def sum_of(crate: str) -> str:
-    """A sum of all that a check of the crate reads: this tool, the toolchain, the crate's files, and the libraries below as built."""
-    made = hashlib.sha256()
-    for part in [kit_sum(), line_of(crate), Path(__file__).read_text(encoding="utf-8")]:
-        made.update(part.encode() + b"\0")
-    files = [it for part in PARTS for it in sorted((TOP / "crates" / crate / part).rglob("*")) if it.is_file()]
-    for file in [*files, *(it for name in below(crate) for it in sorted(rlib(name).rglob("*")) if it.is_file())]:
-        made.update(f"{file.relative_to(TOP)}\0".encode() + hashlib.sha256(file.read_bytes()).digest())
-    return made.hexdigest()
+    @functools.cached_property
+    def sum(self) -> str:
+        """A sum of all that a check of the crate reads: these tools, the toolchain, the crate's files, and the libraries below as built."""
+        made = hashlib.sha256()
+        tools = [Path(__file__).with_name(it).read_text(encoding="utf-8") for it in ("wrong_edits.py", "proved.py")]
+        for part in [kit_sum(), lines_of_crates()[self.name], *tools]:
+            made.update(part.encode() + b"\0")
+        own = [(TOP, self.texts.folder / part) for part in PARTS]
+        for top, folder in [*own, *((self.room, rlib(self.room, it)) for it in below(self.name))]:
+            for file in sorted(it for it in folder.rglob("*") if it.is_file()):
+                made.update(f"{file.relative_to(top)}\0".encode() + hashlib.sha256(file.read_bytes()).digest())
+        return made.hexdigest()
+
+    def kept(self, key: str) -> Path:
+        """Where what a try came to is kept."""
+        return KEPT / f"{self.name}-{hashlib.sha256(f'{self.sum} {key}'.encode()).hexdigest()}.json"
 
 
 @dataclass
@@ -247,10 +218,6 @@ class Verdict:
 
     def __add__(self, other: Verdict) -> Verdict:
         return Verdict(self.refused | other.refused, self.faults + other.faults)
-
-
-def kept(crate: str, key: str) -> Path:
-    return KEPT / f"{crate}-{hashlib.sha256(f'{sum_of(crate)} {key}'.encode()).hexdigest()}.json"
 
 
 def keep(file: Path, verdict: Verdict) -> None:
@@ -274,7 +241,7 @@ def taken(file: Path) -> Verdict | None:
 class Round:
     """Edits that one check tries, and the functions that each of them changes; or one edit by itself, and what has to fail by it."""
 
-    crate: str
+    crate: Crate
     texts: Texts
     edits: list[Edit] = field(default_factory=list)
     functions: list[set[str]] = field(default_factory=list)
@@ -295,11 +262,11 @@ class Round:
 
     def tried(self) -> Verdict:
         """What one check of these functions says of each edit. Where it comes to no end, what checks of the halves say."""
-        file = kept(self.crate, json.dumps([[it.name for it in self.edits], sorted(self.texts.changed.items())]))
+        file = self.crate.kept(json.dumps([[it.name for it in self.edits], sorted(self.texts.changed.items())]))
         if found := taken(file):
             return found
         only = [it for name in sorted(set().union(*self.functions)) for it in ("--only", name)]
-        status, said = check(self.texts, self.crate, ["--allow-holes", *only])
+        status, said = self.crate.check(self.texts, ["--allow-holes", *only])
         if status == 1 and re.search(r"(?m)^only=\d+ holes=", said):
             verdict = self.judged(said)
             keep(file, verdict)
@@ -311,7 +278,7 @@ class Round:
     def judged(self, said: str) -> Verdict:
         """What the lines of the check say of each edit."""
         verdict = Verdict()
-        failing = failing_functions(self.crate, said, bool(self.edits[0].only))
+        failing = failing_functions(self.crate.name, said, bool(self.edits[0].only))
         for function, why in failing.items():
             owners = [edit for edit, changed in zip(self.edits, self.functions) if any(is_of(function, it) for it in changed)]
             for edit in owners:
@@ -347,17 +314,17 @@ def failing_functions(crate: str, said: str, by_lemmas: bool) -> dict[str, str]:
     return failing
 
 
-def alone(edit: Edit, texts: Texts) -> Verdict:
+def alone(edit: Edit, crate: Crate) -> Verdict:
     """A check of the whole crate with this edit and no other."""
-    file = kept(edit.crate, json.dumps([edit.name, edit.pairs]))
+    file = crate.kept(json.dumps([edit.name, edit.pairs]))
     if found := taken(file):
         return found
     try:
-        changed, places = edit.applied(texts)
+        changed, places = edit.applied(crate.texts)
         edit.changes(places)
     except BadEdit as error:
         return Verdict(faults=[f"BAD EDIT: {edit}: {error}"])
-    status, said = check(changed, edit.crate, [])
+    status, said = crate.check(changed, [])
     verdict = judged_alone(edit, status, said)
     if status in (0, 1):
         keep(file, verdict)
@@ -378,12 +345,12 @@ def judged_alone(edit: Edit, status: int, said: str) -> Verdict:
     return Verdict(refused={edit.name: meant[:160]})
 
 
-def rounds_of(crate: str, edits: list[Edit]) -> list[Round]:
+def rounds_of(crate: Crate, edits: list[Edit]) -> list[Round]:
     """As few rounds as a first fit gives. An edit that names no function is in none of them."""
     rounds: list[Round] = []
     for edit in edits:
         if not any(it.takes(edit) for it in rounds):
-            made = Round(crate, Texts(TOP / "crates" / crate))
+            made = Round(crate, crate.texts)
             if made.takes(edit):
                 rounds.append(made)
     return rounds
@@ -392,7 +359,7 @@ def rounds_of(crate: str, edits: list[Edit]) -> list[Round]:
 def chosen(words: list[str], folder: Path | None) -> dict[str, list[Edit]]:
     """The edits that these words name, by their crates; all of them for no words."""
     found: dict[str, list[Edit]] = {}
-    for crate in uses():
+    for crate in lines_of_crates():
         place = folder / crate if folder else TOP / "crates" / crate / "wrong"
         edits = [Edit.read(crate, it) for it in sorted(place.glob("*.edit"))]
         edits = [it for it in edits if not words or crate in words or str(it) in words]
@@ -404,8 +371,8 @@ def chosen(words: list[str], folder: Path | None) -> dict[str, list[Edit]]:
     return found
 
 
-def weight(crate: str) -> int:
-    return sum(it.stat().st_size for part in PARTS for it in (TOP / "crates" / crate / part).rglob("*.*"))
+def weight(crate: Crate) -> int:
+    return sum(it.stat().st_size for part in PARTS for it in (crate.texts.folder / part).rglob("*.*"))
 
 
 def main() -> int:
@@ -413,19 +380,20 @@ def main() -> int:
     reader.add_argument("names", nargs="*", metavar="CRATE | CRATE/EDIT")
     reader.add_argument("--from", dest="folder", type=Path)
     given = reader.parse_args()
-    crates = chosen(given.names, given.folder)
-    missing = [it for name in crates for it in below(name) if not rlib(it).is_dir()]
-    if missing:
-        sys.exit(f"wrong_edits: {missing[0]} isn't built: run 'rt ci' first, or 'rt ci {missing[0]}'")
-    with ThreadPoolExecutor(int(os.environ.get("RT_JOBS") or os.cpu_count() or 1)) as pool:
-        refused, faults = tried(crates, pool)
+    edits = chosen(given.names, given.folder)
+    with tempfile.TemporaryDirectory(prefix="wrong-edits-proved-") as room:
+        copy_to(Path(room), crates_below({it for name in edits for it in below(name)}))
+        if not prove(Path(room)):
+            sys.exit("wrong_edits: FAILED: what is below isn't proved")
+        with ThreadPoolExecutor(int(os.environ.get("RT_JOBS") or os.cpu_count() or 1)) as pool:
+            refused, faults = tried({Crate(it, Path(room)): edits[it] for it in edits}, pool)
     for fault in faults:
         print(f"wrong_edits: FAILED: {fault}")
     print(f"wrong_edits: {refused} refused, {len(faults)} failed")
     return 1 if faults else 0
 
 
-def tried(crates: dict[str, list[Edit]], pool: ThreadPoolExecutor) -> tuple[int, list[str]]:
+def tried(crates: dict[Crate, list[Edit]], pool: ThreadPoolExecutor) -> tuple[int, list[str]]:
     """How many edits were refused, and what is wrong: first all rounds, the largest crates first, and then what they didn't settle."""
     plans = {crate: rounds_of(crate, crates[crate]) for crate in sorted(crates, key=weight, reverse=True)}
     verdicts = {crate: [pool.submit(it.tried) for it in rounds] for crate, rounds in plans.items()}
@@ -433,11 +401,11 @@ def tried(crates: dict[str, list[Edit]], pool: ThreadPoolExecutor) -> tuple[int,
     faults = []
     for crate, jobs in verdicts.items():
         for verdict in (it.result() for it in jobs):
-            refused |= {f"{crate}/{name}": why for name, why in verdict.refused.items()}
+            refused |= {f"{crate.name}/{name}": why for name, why in verdict.refused.items()}
             faults += verdict.faults
-        print(f"wrong_edits: {crate}: {len(jobs)} rounds have ended", flush=True)
-    left = [edit for edits in crates.values() for edit in edits if str(edit) not in refused]
-    for edit, job in [(it, pool.submit(alone, it, Texts(TOP / "crates" / it.crate))) for it in left]:
+        print(f"wrong_edits: {crate.name}: {len(jobs)} rounds have ended", flush=True)
+    left = [(edit, crate) for crate, edits in crates.items() for edit in edits if str(edit) not in refused]
+    for edit, job in [(edit, pool.submit(alone, edit, crate)) for edit, crate in left]:
         verdict = job.result()
         refused |= {str(edit): why for why in verdict.refused.values()}
         faults += verdict.faults
