@@ -25,19 +25,19 @@ use std::test::Fail;
 use value::Val;
 
 /// The operation 1@1 that assigns an empty map at the root, with the vector of all that was applied.
-fn first_op(alloc: Global, document: &Document) -> Result<Shared<Op>, Fail> {
+fn first_op(rt: &impl Abort, alloc: Global, document: &Document) -> Shared<Op> {
     let op = Op {
-        id: id_of((1, 1))?,
-        deps: NamedVector::of(alloc, document.applied().ids())?,
+        id: id_of((1, 1)).expect(rt, "an id"),
+        deps: NamedVector::of(alloc, document.applied().ids()).expect(rt, "not refused"),
         place: Place::doc(alloc),
         mutation: Mutation::Assign(Val::EmptyMap),
     };
-    Ok(Shared::new(alloc, op)?)
+    Shared::new(alloc, op).expect(rt, "memory")
 }
 
 #[test]
-fn new_documents_are_empty(rt: HostRuntime) -> Result<(), Fail> {
-    let document = Document::new(rt.alloc(), &[2, 1])?;
+fn new_documents_are_empty(rt: HostRuntime) {
+    let document = Document::new(rt.alloc(), &[2, 1]).expect(&rt, "a value");
     assert_eq!(rt; document.table().at(0), ReplicaId::new(1));
     assert_eq!(rt; document.table().at(1), ReplicaId::new(2));
     let applied = document.applied();
@@ -46,7 +46,6 @@ fn new_documents_are_empty(rt: HostRuntime) -> Result<(), Fail> {
         (0, 0, 0)
     );
     assert_eq!(rt; document.into_entries().len(), 0);
-    Ok(())
 }
 
 /// How many replicas the table of a new document with these members has.
@@ -69,19 +68,17 @@ fn members_are_within_limits(rt: HostRuntime) {
 }
 
 /// Reserves that operation twice.
-fn reserve_twice(alloc: Global, document: &mut Document) -> Result<(), Fail> {
-    let op = first_op(alloc, document)?;
-    document.reserve(alloc, &op)?;
-    document.reserve(alloc, &op)?;
-    Ok(())
+fn reserve_twice(rt: &impl Abort, alloc: Global, document: &mut Document) {
+    let op = first_op(rt, alloc, document);
+    document.reserve(alloc, &op).expect(rt, "memory");
+    document.reserve(alloc, &op).expect(rt, "memory");
 }
 
 #[test]
-fn taking_memory_changes_no_content(rt: HostRuntime) -> Result<(), Fail> {
-    let mut document = Document::new(rt.alloc(), &[1, 2])?;
-    reserve_twice(rt.alloc(), &mut document)?;
+fn taking_memory_changes_no_content(rt: HostRuntime) {
+    let mut document = Document::new(rt.alloc(), &[1, 2]).expect(&rt, "a value");
+    reserve_twice(&rt, rt.alloc(), &mut document);
     assert_eq!(rt; (document.len(), document.applied().greatest()), (0, 0));
-    Ok(())
 }
 
 /// Inserts a map into a list, and writes a number at a key of it.

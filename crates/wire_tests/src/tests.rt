@@ -13,7 +13,7 @@ use cursor::Place;
 use fixtures::{field, id_of};
 use ids::Refusal;
 use operation::{Mutation, Op, Shared};
-use std::alloc::{AllocError, Global};
+use std::alloc::Global;
 use std::process::Abort;
 use value::{Scalar, Val};
 use wire::write_op;
@@ -116,12 +116,13 @@ fn op(alloc: Global, row: &Row) -> Result<Shared<Op>, Refusal> {
 }
 
 /// The operations of the five lines.
-fn list_of_five(alloc: Global) -> Result<Vec<Shared<Op>>, Refusal> {
+fn list_of_five(rt: &impl Abort, alloc: Global) -> Vec<Shared<Op>> {
     let mut ops = Vec::new(alloc);
     for row in FIVE {
-        ops.push(op(alloc, row)?)?;
+        ops.push(op(alloc, row).expect(rt, "an operation"))
+            .expect(rt, "memory");
     }
-    Ok(ops)
+    ops
 }
 
 /// Asserts that the line of profile 1 is the operation's.
@@ -132,31 +133,37 @@ fn is_op(rt: &impl Abort, alloc: Global, op: &Op, want: &str) -> Result<(), Refu
 }
 
 /// The parts of a text, joined.
-fn joined(alloc: Global, parts: &[&str]) -> Result<String, AllocError> {
+fn joined(rt: &impl Abort, alloc: Global, parts: &[&str]) -> String {
     let mut text = String::new(alloc);
     for part in parts {
-        text.push_str(part)?;
+        text.push_str(part).expect(rt, "memory");
     }
-    Ok(text)
+    text
 }
 
 /// What comes before a part of a line, and what comes after it.
 type Around<'a> = (&'a str, &'a str);
 
 /// The line with this part.
-fn with_part(alloc: Global, around: Around, part: &str) -> Result<String, AllocError> {
-    joined(alloc, &[around.0, part, around.1])
+fn with_part(rt: &impl Abort, alloc: Global, around: Around, part: &str) -> String {
+    joined(rt, alloc, &[around.0, part, around.1])
 }
 
 /// The most pairs of a vector.
 const MOST_PAIRS: u32 = 256;
 
 /// That many pairs, of the replicas 1, 2 and so on.
-fn pairs(alloc: Global, count: u32) -> Result<String, AllocError> {
+fn pairs(rt: &impl Abort, alloc: Global, count: u32) -> String {
     let mut pairs = String::new(alloc);
     for replica in 1..=count {
         let comma = if replica > 1 { "," } else { "" };
-        pairs.push_str(format!(in alloc; "{comma}[{replica},1]")?.as_str())?;
+        pairs
+            .push_str(
+                format!(in alloc; "{comma}[{replica},1]")
+                    .expect(rt, "memory")
+                    .as_str(),
+            )
+            .expect(rt, "memory");
     }
-    format!(in alloc; "[{pairs}]")
+    format!(in alloc; "[{pairs}]").expect(rt, "memory")
 }

@@ -9,7 +9,6 @@ use super::acts::{Act, Kind, Probe};
 use super::both::play;
 use super::orders::next_order;
 use cursor::{Expr, Step as Hop};
-use ids::Refusal;
 use operation::Command;
 use std::alloc::Global;
 use std::process::Abort;

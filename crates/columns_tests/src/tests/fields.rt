@@ -6,23 +6,22 @@ use std::process::Abort;
 use value::Key;
 
 /// Puts a field that isn't there yet.
-fn put(alloc: Global, fields: &mut Fields, text: &str, number: usize) -> Result<(), Fail> {
-    fields.reserve_one()?;
-    let key = Key::new(alloc, text)?;
+fn put(rt: &impl Abort, alloc: Global, fields: &mut Fields, text: &str, number: usize) {
+    fields.reserve_one().expect(rt, "memory");
+    let key = Key::new(alloc, text).expect(rt, "a key");
     if fields.get(&key).is_some() {
-        return Err("a field that is there".into());
+        panic!(rt; "a field that is there");
     }
     fields.put(key, number);
-    Ok(())
 }
 
 /// These fields, put in this order.
-fn fields_of(alloc: Global, rows: &[(&str, usize)]) -> Result<Fields, Fail> {
+fn fields_of(rt: &impl Abort, alloc: Global, rows: &[(&str, usize)]) -> Fields {
     let mut fields = Fields::new(alloc);
     for (text, number) in rows {
-        put(alloc, &mut fields, text, *number)?;
+        put(rt, alloc, &mut fields, text, *number);
     }
-    Ok(fields)
+    fields
 }
 
 /// Asserts the fields, in order.
@@ -35,26 +34,21 @@ fn assert_fields(rt: &impl Abort, fields: &Fields, want: &[(&str, usize)]) {
 }
 
 /// Asserts the number of each key.
-fn assert_got(
-    rt: &impl Abort,
-    alloc: Global,
-    fields: &Fields,
-    rows: &[(&str, Option<usize>)],
-) -> Result<(), Fail> {
+fn assert_got(rt: &impl Abort, alloc: Global, fields: &Fields, rows: &[(&str, Option<usize>)]) {
     for (text, want) in rows {
-        let key = Key::new(alloc, text)?;
+        let key = Key::new(alloc, text).expect(rt, "a key");
         assert_eq!(rt; fields.get(&key), *want, "of {text}");
     }
-    Ok(())
 }
 
 #[test]
-fn fields_rise_by_key(rt: HostRuntime) -> Result<(), Fail> {
+fn fields_rise_by_key(rt: HostRuntime) {
     assert_eq!(rt; Fields::new(rt.alloc()).len(), 0);
     let fields = fields_of(
+        &rt,
         rt.alloc(),
         &[("b", 3), ("", 4), ("ä", 1), ("B", 2), ("ba", 5)],
-    )?;
+    );
     assert_fields(
         &rt,
         &fields,

@@ -6,27 +6,26 @@ use std::process::Abort;
 use value::Key;
 
 /// Puts a field whose key is a number of four digits.
-fn put(alloc: Global, fields: &mut Fields, number: usize) -> Result<(), Fail> {
-    fields.reserve_one()?;
-    let text = format!(in alloc; "{number:04}")?;
-    let key = Key::new(alloc, text.as_str())?;
+fn put(rt: &impl Abort, alloc: Global, fields: &mut Fields, number: usize) {
+    fields.reserve_one().expect(rt, "memory");
+    let text = format!(in alloc; "{number:04}").expect(rt, "memory");
+    let key = Key::new(alloc, text.as_str()).expect(rt, "a key");
     if fields.get(&key).is_some() {
-        return Err("a field that is there".into());
+        panic!(rt; "a field that is there");
     }
     fields.put(key, number);
-    Ok(())
 }
 
 /// This many fields. Those of even numbers come first, and then the others go in between them.
-fn fields_of(alloc: Global, count: usize) -> Result<Fields, Fail> {
+fn fields_of(rt: &impl Abort, alloc: Global, count: usize) -> Fields {
     let mut fields = Fields::new(alloc);
     for half in 0..count.div_ceil(2) {
-        put(alloc, &mut fields, half * 2)?;
+        put(rt, alloc, &mut fields, half * 2);
     }
     for half in 0..count / 2 {
-        put(alloc, &mut fields, half * 2 + 1)?;
+        put(rt, alloc, &mut fields, half * 2 + 1);
     }
-    Ok(fields)
+    fields
 }
 
 /// Sets the flags at these positions, as far as there are fields.
@@ -63,8 +62,8 @@ fn assert_raised(rt: &impl Abort, fields: &Fields, raised: &[usize]) {
 }
 
 /// Raises flags at the borders one by one, at all of them, and at none.
-fn assert_borders(rt: &impl Abort, alloc: Global, count: usize) -> Result<(), Fail> {
-    let mut fields = fields_of(alloc, count)?;
+fn assert_borders(rt: &impl Abort, alloc: Global, count: usize) {
+    let mut fields = fields_of(rt, alloc, count);
     assert_eq!(rt; fields.len(), count);
     assert_raised(rt, &fields, &[]);
     for position in BORDERS {
@@ -77,38 +76,35 @@ fn assert_borders(rt: &impl Abort, alloc: Global, count: usize) -> Result<(), Fa
     assert_raised(rt, &fields, BORDERS);
     set_flags(&mut fields, BORDERS, false);
     assert_raised(rt, &fields, &[]);
-    Ok(())
 }
 
 #[test]
-fn flags_are_found_on_each_side_of_a_border(rt: HostRuntime) -> Result<(), Fail> {
+fn flags_are_found_on_each_side_of_a_border(rt: HostRuntime) {
     for count in [0, 1, 2, 2047, 2048, 2049, 4096, 4100] {
-        assert_borders(&rt, rt.alloc(), count)?;
+        assert_borders(&rt, rt.alloc(), count);
     }
-    Ok(())
 }
 
 /// The fields of even numbers below 8,200, so that four digits are enough for those between them.
-fn even_fields(alloc: Global) -> Result<Fields, Fail> {
+fn even_fields(rt: &impl Abort, alloc: Global) -> Fields {
     let mut fields = Fields::new(alloc);
     for half in 0..4100 {
-        put(alloc, &mut fields, half * 2)?;
+        put(rt, alloc, &mut fields, half * 2);
     }
-    Ok(fields)
+    fields
 }
 
 #[test]
-fn flags_move_with_their_fields(rt: HostRuntime) -> Result<(), Fail> {
-    let mut fields = even_fields(rt.alloc())?;
+fn flags_move_with_their_fields(rt: HostRuntime) {
+    let mut fields = even_fields(&rt, rt.alloc());
     set_flags(&mut fields, &[1, 2046, 4095, 4099], true);
     // A field is inserted between 2 and 4, one between 5,000 and 5,002, and one after all: their flags are lowered.
-    put(rt.alloc(), &mut fields, 3)?;
+    put(&rt, rt.alloc(), &mut fields, 3);
     assert_raised(&rt, &fields, &[1, 2047, 4096, 4100]);
-    put(rt.alloc(), &mut fields, 5001)?;
+    put(&rt, rt.alloc(), &mut fields, 5001);
     assert_raised(&rt, &fields, &[1, 2047, 4097, 4101]);
-    put(rt.alloc(), &mut fields, 9999)?;
+    put(&rt, rt.alloc(), &mut fields, 9999);
     assert_raised(&rt, &fields, &[1, 2047, 4097, 4101]);
-    Ok(())
 }
 
 /// Asserts the position and the number of a field.
@@ -118,16 +114,15 @@ fn assert_located(
     fields: &Fields,
     number: usize,
     want: Option<(usize, usize)>,
-) -> Result<(), Fail> {
-    let text = format!(in alloc; "{number:04}")?;
-    let key = Key::new(alloc, text.as_str())?;
+) {
+    let text = format!(in alloc; "{number:04}").expect(rt, "memory");
+    let key = Key::new(alloc, text.as_str()).expect(rt, "a key");
     assert_eq!(rt; fields.locate(&key), want, "of {number}");
-    Ok(())
 }
 
 #[test]
-fn fields_are_located_by_their_keys(rt: HostRuntime) -> Result<(), Fail> {
-    let fields = even_fields(rt.alloc())?;
+fn fields_are_located_by_their_keys(rt: HostRuntime) {
+    let fields = even_fields(&rt, rt.alloc());
     for (number, want) in [
         (0, Some((0, 0))),
         (1, None),
@@ -136,7 +131,6 @@ fn fields_are_located_by_their_keys(rt: HostRuntime) -> Result<(), Fail> {
         (8198, Some((4099, 8198))),
         (9999, None),
     ] {
-        assert_located(&rt, rt.alloc(), &fields, number, want)?;
+        assert_located(&rt, rt.alloc(), &fields, number, want);
     }
-    Ok(())
 }

@@ -9,48 +9,47 @@ use value::Key;
 const BEFORE: u64 = 18_446_744_073_709_551_550;
 
 /// Puts a key that isn't there yet.
-fn put(alloc: Global, keys: &mut SortedKeys, text: &str) -> Result<(), Fail> {
-    keys.reserve_one()?;
-    let key = Key::new(alloc, text)?;
+fn put(rt: &impl Abort, alloc: Global, keys: &mut SortedKeys, text: &str) {
+    keys.reserve_one().expect(rt, "memory");
+    let key = Key::new(alloc, text).expect(rt, "a key");
     match keys.find_with_hint(&key, 0, &mut 0) {
-        Ok(_) => Err("a key that is there".into()),
+        Ok(_) => panic!(rt; "a key that is there"),
         Err(position) => {
             keys.put(position, key);
-            Ok(())
         }
     }
 }
 
 /// These keys, put in this order.
-fn keys_of(alloc: Global, texts: &[&str]) -> Result<SortedKeys, Fail> {
+fn keys_of(rt: &impl Abort, alloc: Global, texts: &[&str]) -> SortedKeys {
     let mut keys = SortedKeys::new(alloc);
     for text in texts {
-        put(alloc, &mut keys, text)?;
+        put(rt, alloc, &mut keys, text);
     }
-    Ok(keys)
+    keys
 }
 
 /// Puts a number of four digits as a key.
-fn put_number(alloc: Global, keys: &mut SortedKeys, number: usize) -> Result<(), Fail> {
-    let text = format!(in alloc; "{number:04}")?;
-    put(alloc, keys, text.as_str())
+fn put_number(rt: &impl Abort, alloc: Global, keys: &mut SortedKeys, number: usize) {
+    let text = format!(in alloc; "{number:04}").expect(rt, "memory");
+    put(rt, alloc, keys, text.as_str())
 }
 
 /// This many keys, each a number of four digits.
-fn numbered(alloc: Global, count: usize) -> Result<SortedKeys, Fail> {
+fn numbered(rt: &impl Abort, alloc: Global, count: usize) -> SortedKeys {
     let mut keys = SortedKeys::new(alloc);
     for number in 0..count {
-        put_number(alloc, &mut keys, number)?;
+        put_number(rt, alloc, &mut keys, number);
     }
-    Ok(keys)
+    keys
 }
 
 /// How many keys a search compares that looks here first.
-fn probes_for(alloc: Global, keys: &SortedKeys, text: &str, hint: usize) -> Result<u64, Fail> {
-    let key = Key::new(alloc, text)?;
+fn probes_for(rt: &impl Abort, alloc: Global, keys: &SortedKeys, text: &str, hint: usize) -> u64 {
+    let key = Key::new(alloc, text).expect(rt, "a key");
     let mut probes = BEFORE;
     let _ = keys.find_with_hint(&key, hint, &mut probes);
-    Ok(probes - BEFORE)
+    probes - BEFORE
 }
 
 /// Asserts the keys in order, each with how many were put before it.
@@ -76,12 +75,11 @@ fn assert_found(
     alloc: Global,
     keys: &SortedKeys,
     rows: &[(&str, Result<usize, usize>)],
-) -> Result<(), Fail> {
+) {
     for (text, want) in rows {
-        let key = Key::new(alloc, text)?;
+        let key = Key::new(alloc, text).expect(rt, "a key");
         assert_any_hint(rt, keys, &key, *want);
     }
-    Ok(())
 }
 
 /// Asserts that a search for each text, starting here, compares at most this many keys.
@@ -92,20 +90,19 @@ fn assert_few_probes(
     hint: usize,
     most: u64,
     texts: &[&str],
-) -> Result<(), Fail> {
+) {
     for text in texts {
-        let probes = probes_for(alloc, keys, text, hint)?;
+        let probes = probes_for(rt, alloc, keys, text, hint);
         assert!(rt;
             probes <= most,
             "{probes} for {text} from {hint}, not {most}"
         );
     }
-    Ok(())
 }
 
 /// Asserts that each search among `count` keys compares at most `most`, wherever it looks first.
-fn assert_most_probes(rt: &impl Abort, alloc: Global, count: usize, most: u64) -> Result<(), Fail> {
-    let keys = numbered(alloc, count)?;
+fn assert_most_probes(rt: &impl Abort, alloc: Global, count: usize, most: u64) {
+    let keys = numbered(rt, alloc, count);
     assert_eq!(rt; keys.len(), count);
     for hint in [0, 1, 126, 127, 128, 254, 255, 256] {
         assert_few_probes(
@@ -115,32 +112,25 @@ fn assert_most_probes(rt: &impl Abort, alloc: Global, count: usize, most: u64) -
             hint,
             most,
             &["", "0000", "0127", "0127x", "0128", "0254", "0255", "9"],
-        )?;
+        );
     }
-    Ok(())
 }
 
 /// Asserts how many keys each search among 255 compares, starting at this one.
-fn assert_probes(
-    rt: &impl Abort,
-    alloc: Global,
-    hint: usize,
-    rows: &[(&str, u64)],
-) -> Result<(), Fail> {
-    let keys = numbered(alloc, 255)?;
+fn assert_probes(rt: &impl Abort, alloc: Global, hint: usize, rows: &[(&str, u64)]) {
+    let keys = numbered(rt, alloc, 255);
     for (text, want) in rows {
         assert_eq!(rt;
-            probes_for(alloc, &keys, text, hint)?,
+            probes_for(rt, alloc, &keys, text, hint),
             *want,
             "{text} from {hint}"
         );
     }
-    Ok(())
 }
 
 #[test]
-fn keys_stand_in_byte_order(rt: HostRuntime) -> Result<(), Fail> {
-    let keys = keys_of(rt.alloc(), &["b", "", "ä", "B", "ba"])?;
+fn keys_stand_in_byte_order(rt: HostRuntime) {
+    let keys = keys_of(&rt, rt.alloc(), &["b", "", "ä", "B", "ba"]);
     assert_keys(
         &rt,
         &keys,
@@ -166,8 +156,9 @@ fn keys_stand_in_byte_order(rt: HostRuntime) -> Result<(), Fail> {
 
 /// Keys that share their first eight bytes, or have no others, are distinguished by what follows, and by their lengths.
 #[test]
-fn keys_with_one_beginning_stand_in_byte_order(rt: HostRuntime) -> Result<(), Fail> {
+fn keys_with_one_beginning_stand_in_byte_order(rt: HostRuntime) {
     let keys = keys_of(
+        &rt,
         rt.alloc(),
         &[
             "12345678b",
@@ -178,7 +169,7 @@ fn keys_with_one_beginning_stand_in_byte_order(rt: HostRuntime) -> Result<(), Fa
             "1234567",
             "12345678a\0",
         ],
-    )?;
+    );
     assert_keys(
         &rt,
         &keys,
@@ -210,23 +201,22 @@ fn keys_with_one_beginning_stand_in_byte_order(rt: HostRuntime) -> Result<(), Fa
 
 /// At most the number of binary digits of the number of keys, and one more.
 #[test]
-fn searches_look_at_few_keys(rt: HostRuntime) -> Result<(), Fail> {
+fn searches_look_at_few_keys(rt: HostRuntime) {
     for (count, most) in [(0, 0), (1, 2), (2, 3), (3, 3), (255, 9), (256, 10)] {
-        assert_most_probes(&rt, rt.alloc(), count, most)?;
+        assert_most_probes(&rt, rt.alloc(), count, most);
     }
-    Ok(())
 }
 
 /// Of 255 keys, at most 127 may be on either side of the second one that is looked at, then 63, then 31, and so on. So after 0127 the next
 /// one is looked at right away, and after 0064 first 0127.
 #[test]
-fn searches_look_at_the_hint_and_then_near_it(rt: HostRuntime) -> Result<(), Fail> {
+fn searches_look_at_the_hint_and_then_near_it(rt: HostRuntime) {
     assert_probes(
         &rt,
         rt.alloc(),
         127,
         &[("0127", 1), ("0127x", 2), ("0128", 2), ("0254", 9)],
-    )?;
+    );
     assert_probes(
         &rt,
         rt.alloc(),

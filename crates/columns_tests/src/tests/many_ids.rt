@@ -101,24 +101,23 @@ fn presence_of(alloc: Global, order: Order, count: u64) -> Result<Presence, Fail
 }
 
 /// Puts a row where its counter and its replica belong, in place of one with the same.
-fn put_row(rows: &mut Vec<Row>, row: Row) -> Result<(), Fail> {
+fn put_row(rt: &impl Abort, rows: &mut Vec<Row>, row: Row) {
     match rows.binary_search_by_key(&row.0, |other| other.0) {
         Ok(at) => {
             rows.remove(at);
-            rows.insert(at, row)?;
+            rows.insert(at, row).expect(rt, "memory");
         }
-        Err(at) => rows.insert(at, row)?,
+        Err(at) => rows.insert(at, row).expect(rt, "memory"),
     }
-    Ok(())
 }
 
 /// The same ids in a list that is kept in order.
-fn rows_of(alloc: Global, order: Order, count: u64) -> Result<Vec<Row>, Fail> {
+fn rows_of(rt: &impl Abort, alloc: Global, order: Order, count: u64) -> Vec<Row> {
     let mut rows = Vec::new(alloc);
     for turn in 0..count {
-        put_row(&mut rows, (pair_at(order, turn, count), tag_at(turn)))?;
+        put_row(rt, &mut rows, (pair_at(order, turn, count), tag_at(turn)));
     }
-    Ok(rows)
+    rows
 }
 
 /// Whether a vector of these counters leaves an id of one of the replicas 1 to 3.
@@ -173,13 +172,13 @@ fn assert_left(
     counters: [u64; 3],
 ) -> Result<(), Fail> {
     let vector = vector(alloc, &counters)?;
-    let mut rows = rows_of(alloc, order, count)?;
+    let mut rows = rows_of(rt, alloc, order, count);
     let mut presence = presence_of(alloc, order, count)?;
     presence.clear(&vector);
     assert_rows(rt, alloc, &presence, &rows, counters)?;
     for turn in 0..70 {
         put(&mut presence, later_row(turn, count))?;
-        put_row(&mut rows, later_row(turn, count))?;
+        put_row(rt, &mut rows, later_row(turn, count));
     }
     assert_rows(rt, alloc, &presence, &rows, counters)
 }

@@ -7,6 +7,7 @@ use super::playing::Turn::{Check, Items, Len, Table, Take, Values, Vector, Waits
 use super::playing::Value::{List, Text, Whole};
 use super::playing::{Hop, Sent, Turn, on_new_of, play, take};
 use super::*;
+use std::process::Abort;
 
 const K: &[Hop] = &[Field("k")];
 
@@ -85,20 +86,19 @@ fn newcomers_are_tested_as_members_are(rt: HostRuntime) -> Result<(), Fail> {
 }
 
 /// A document of the members 4, 5 and 101 to 162.
-fn of_many(alloc: Global) -> Result<Document, Refusal> {
-    let mut members = vec![in alloc; 4, 5]?;
+fn of_many(rt: &impl Abort, alloc: Global) -> Document {
+    let mut members = vec![in alloc; 4, 5].expect(rt, "memory");
     for number in 101..=162 {
-        members.push(number)?;
+        members.push(number).expect(rt, "memory");
     }
-    Document::new(alloc, &members)
+    Document::new(alloc, &members).expect(rt, "a value")
 }
 
 /// Takes 1@1001 to 1@1192.
-fn fill(rt: &impl Abort, alloc: Global, document: &mut Document) -> Result<(), Refusal> {
+fn fill(rt: &impl Abort, alloc: Global, document: &mut Document) {
     for number in 1001..=1192 {
-        take(rt, alloc, document, ((1, number), &[], K, Delete))?;
+        take(rt, alloc, document, ((1, number), &[], K, Delete)).expect(rt, "not refused");
     }
-    Ok(())
 }
 
 /// Takes these operations, lets 192 replicas join 64 members, and then plays these turns.
@@ -108,24 +108,24 @@ fn fill_and_play(
     document: &mut Document,
     ops: &[Sent],
     turns: &[Turn],
-) -> Result<(), Refusal> {
-    play(rt, alloc, document, ops, &[])?;
-    fill(rt, alloc, document)?;
+) {
+    play(rt, alloc, document, ops, &[]).expect(rt, "not refused");
+    fill(rt, alloc, document);
     assert_eq!(rt; document.members().len(), 64);
     assert_eq!(rt; document.table().len(), 256);
-    play(rt, alloc, document, &[], turns)
+    play(rt, alloc, document, &[], turns).expect(rt, "not refused")
 }
 
 /// A document of 64 members takes these operations, and 192 others join; then these turns are played.
-fn on_full(rt: &impl Abort, alloc: Global, ops: &[Sent], turns: &[Turn]) -> Result<(), Refusal> {
-    let mut document = of_many(alloc)?;
+fn on_full(rt: &impl Abort, alloc: Global, ops: &[Sent], turns: &[Turn]) {
+    let mut document = of_many(rt, alloc);
     fill_and_play(rt, alloc, &mut document, ops, turns)
 }
 
 const NO_ROOM: Result<(), Refusal> = Err(Refusal::UnknownReplica);
 
 #[test]
-fn at_most_256_replicas_are_in_a_document(rt: HostRuntime) -> Result<(), Fail> {
+fn at_most_256_replicas_are_in_a_document(rt: HostRuntime) {
     const TURNS: &[Turn] = &[
         Len(192),
         Check(((1, 2000), &[], K, Delete), NO_ROOM),
@@ -135,12 +135,12 @@ fn at_most_256_replicas_are_in_a_document(rt: HostRuntime) -> Result<(), Fail> {
         Take(((1, 101), &[], K, Delete)),
         Check(((1, 2000), &[], K, Delete), NO_ROOM),
     ];
-    Ok(on_full(&rt, rt.alloc(), &[], TURNS)?)
+    on_full(&rt, rt.alloc(), &[], TURNS)
 }
 
 /// With each of these vectors and places, the operation of a member has a different fault.
 #[test]
-fn room_is_tested_first(rt: HostRuntime) -> Result<(), Fail> {
+fn room_is_tested_first(rt: HostRuntime) {
     const OPS: &[Sent] = &[
         ((1, 5), &[], K, Delete),
         ((2, 4), &[0, 0, 0, 0, 1], K, Delete),
@@ -158,5 +158,5 @@ fn room_is_tested_first(rt: HostRuntime) -> Result<(), Fail> {
         Check(((2, 101), FIRST, OF_ITEM, Delete), Err(Refusal::BadPlace)),
         Check(((2, 2000), FIRST, OF_ITEM, Delete), NO_ROOM),
     ];
-    Ok(on_full(&rt, rt.alloc(), OPS, TURNS)?)
+    on_full(&rt, rt.alloc(), OPS, TURNS)
 }

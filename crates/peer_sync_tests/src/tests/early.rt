@@ -1,7 +1,6 @@
 //! Operations that come before what they depend on, and operations that depend on nothing.
 
 use fixtures::{counted, field, id_of};
-use ids::Refusal;
 use operation::{Mutation, Op, Shared};
 use std::alloc::Global;
 use std::process::Abort;

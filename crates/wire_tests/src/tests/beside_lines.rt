@@ -28,37 +28,28 @@ pub(super) fn reads(
 }
 
 /// Asserts what one reader reads from these lines.
-fn are_read(rt: &impl Abort, alloc: Global, rows: &[Row]) -> Result<(), Refusal> {
+fn are_read(rt: &impl Abort, alloc: Global, rows: &[Row]) {
     let mut reader = BundleReader::new();
     for row in rows {
-        reads(rt, alloc, &mut reader, row)?;
+        reads(rt, alloc, &mut reader, row).expect(rt, "not refused");
     }
-    Ok(())
 }
 
 /// Asserts that the operation of the line of profile 1 is written as this line next.
-fn writes(
-    rt: &impl Abort,
-    alloc: Global,
-    writer: &mut BundleWriter,
-    whole: &str,
-    want: &str,
-) -> Result<(), Refusal> {
-    let op = read_op(alloc, whole.as_bytes())?;
-    let line = writer.write(alloc, &op)?;
+fn writes(rt: &impl Abort, alloc: Global, writer: &mut BundleWriter, whole: &str, want: &str) {
+    let op = read_op(alloc, whole.as_bytes()).expect(rt, "an operation");
+    let line = writer.write(alloc, &op).expect(rt, "memory");
     assert_eq!(rt; line.as_slice(), want.as_bytes());
-    Ok(())
 }
 
 /// Asserts that one writer writes the operations of these rows as their lines.
-fn are_written(rt: &impl Abort, alloc: Global, rows: &[Row]) -> Result<(), Refusal> {
+fn are_written(rt: &impl Abort, alloc: Global, rows: &[Row]) {
     let mut writer = BundleWriter::new(alloc);
     for (line, whole) in rows {
         if let Ok(whole) = whole {
-            writes(rt, alloc, &mut writer, whole, line)?;
+            writes(rt, alloc, &mut writer, whole, line);
         }
     }
-    Ok(())
 }
 
 /// Two replicas that write at one key.
@@ -165,19 +156,17 @@ const MIXED: &[Row] = &[
 ];
 
 #[test]
-fn lines_are_read_beside_the_one_before(rt: HostRuntime) -> Result<(), Fail> {
+fn lines_are_read_beside_the_one_before(rt: HostRuntime) {
     for rows in [ONE_KEY, LOST, VECTORS, MIXED] {
-        are_read(&rt, rt.alloc(), rows)?;
+        are_read(&rt, rt.alloc(), rows);
     }
-    Ok(())
 }
 
 #[test]
-fn lines_are_written_beside_the_one_before(rt: HostRuntime) -> Result<(), Fail> {
+fn lines_are_written_beside_the_one_before(rt: HostRuntime) {
     for rows in [ONE_KEY, LOST, VECTORS] {
-        are_written(&rt, rt.alloc(), rows)?;
+        are_written(&rt, rt.alloc(), rows);
     }
-    Ok(())
 }
 
 /// The ends of the five lines in their bundle of profile 2.
@@ -185,7 +174,7 @@ pub(super) const ENDS: [usize; 5] = [31, 83, 147, 213, 281];
 
 #[test]
 fn the_five_lines_in_profile_2(rt: HostRuntime) -> Result<(), Fail> {
-    let ops = list_of_five(rt.alloc())?;
+    let ops = list_of_five(&rt, rt.alloc());
     let mut writer = BundleWriter::new(rt.alloc());
     let mut reader = BundleReader::new();
     let mut end = 0_usize;
@@ -233,10 +222,12 @@ const DELTAS: &[&str] = &[
 ];
 
 /// A reader that has read that line.
-fn reader_behind(alloc: Global) -> Result<BundleReader, Refusal> {
+fn reader_behind(rt: &impl Abort, alloc: Global) -> BundleReader {
     let mut reader = BundleReader::new();
-    reader.read(alloc, BASE.as_bytes())?;
-    Ok(reader)
+    reader
+        .read(alloc, BASE.as_bytes())
+        .expect(rt, "not refused");
+    reader
 }
 
 /// Lines that are read directly after that line, and as any JSON if preceded by a space.
@@ -248,10 +239,10 @@ const ALIKE: &[&str] = &[
 ];
 
 /// Asserts that the line is read there as it is when preceded by a space.
-fn is_read_alike(rt: &impl Abort, alloc: Global, line: &[u8]) -> Result<(), Refusal> {
-    let spaced = spaced(alloc, line)?;
-    let mut reader = reader_behind(alloc)?;
-    let mut other = reader_behind(alloc)?;
+fn is_read_alike(rt: &impl Abort, alloc: Global, line: &[u8]) {
+    let spaced = spaced(alloc, line).expect(rt, "not refused");
+    let mut reader = reader_behind(rt, alloc);
+    let mut other = reader_behind(rt, alloc);
     match (
         reader.read(alloc, line),
         other.read(alloc, spaced.as_slice()),
@@ -260,27 +251,25 @@ fn is_read_alike(rt: &impl Abort, alloc: Global, line: &[u8]) -> Result<(), Refu
         (Err(why), Err(same)) => assert_eq!(rt; why, same),
         _ => panic!(rt; "a space in front changes what is read"),
     }
-    Ok(())
 }
 
 /// Asserts this of the line, of each prefix of it, and of the line with one byte changed.
-fn are_read_alike(rt: &impl Abort, alloc: Global, line: &[u8]) -> Result<(), Refusal> {
+fn are_read_alike(rt: &impl Abort, alloc: Global, line: &[u8]) {
     for index in 0..line.len() {
-        is_read_alike(rt, alloc, &line[..index])?;
+        is_read_alike(rt, alloc, &line[..index]);
         for byte in BYTES {
-            let other = changed(alloc, line, index, byte)?;
-            is_read_alike(rt, alloc, other.as_slice())?;
+            let other = changed(rt, alloc, line, index, byte);
+            is_read_alike(rt, alloc, other.as_slice());
         }
     }
     is_read_alike(rt, alloc, line)
 }
 
 #[test]
-fn a_space_in_front_changes_nothing(rt: HostRuntime) -> Result<(), Fail> {
+fn a_space_in_front_changes_nothing(rt: HostRuntime) {
     for line in ALIKE {
-        are_read_alike(&rt, rt.alloc(), line.as_bytes())?;
+        are_read_alike(&rt, rt.alloc(), line.as_bytes());
     }
-    Ok(())
 }
 
 /// Asserts that the line is refused after that line, also as any JSON, and that the reader is left as it was.
@@ -290,21 +279,23 @@ fn is_refused_beside(
     line: &str,
     why: Refusal,
 ) -> Result<(), Refusal> {
-    let mut reader = reader_behind(alloc)?;
+    let mut reader = reader_behind(rt, alloc);
     reads(rt, alloc, &mut reader, &(line, Err(why)))?;
-    let spaced = with_part(alloc, (" ", ""), line)?;
+    let spaced = with_part(rt, alloc, (" ", ""), line);
     reads(rt, alloc, &mut reader, &(spaced.as_str(), Err(why)))?;
     let next = reader.read(alloc, br#"["op2",[9,2],[],[],0,["d"]]"#)?;
     is_op(rt, alloc, &next, r#"["op",[9,2],[[1,1],[3,5]],[],0,["d"]]"#)
 }
 
 #[test]
-fn deltas_that_are_refused(rt: HostRuntime) -> Result<(), Fail> {
+fn deltas_that_are_refused(rt: HostRuntime) {
     for delta in DELTAS {
-        let line = with_part(rt.alloc(), DELTA, delta)?;
-        is_refused_beside(&rt, rt.alloc(), line.as_str(), Refusal::BadLine)?;
+        let line = with_part(&rt, rt.alloc(), DELTA, delta);
+        is_refused_beside(&rt, rt.alloc(), line.as_str(), Refusal::BadLine).expect(
+            &rt,
+            "not refused",
+        );
     }
-    Ok(())
 }
 
 /// Lines with two faults, the first of which decides: the text, the word, the id, the delta, the path, its keys, the place, the mutation.
@@ -340,11 +331,10 @@ const TWO_FAULTS: &[(&str, Refusal)] = &[
 ];
 
 #[test]
-fn the_first_fault_decides(rt: HostRuntime) -> Result<(), Fail> {
+fn the_first_fault_decides(rt: HostRuntime) {
     for (line, why) in TWO_FAULTS {
-        is_refused_beside(&rt, rt.alloc(), line, *why)?;
+        is_refused_beside(&rt, rt.alloc(), line, *why).expect(&rt, "not refused");
     }
-    Ok(())
 }
 
 /// What surrounds a part, the part, how many times it is repeated, and why the line is refused.
@@ -379,19 +369,18 @@ const LONG: &[Long] = &[
 ];
 
 /// Asserts why the line of a row is refused.
-fn is_too_long(rt: &impl Abort, alloc: Global, row: &Long) -> Result<(), Refusal> {
+fn is_too_long(rt: &impl Abort, alloc: Global, row: &Long) {
     let (around, part, times, why) = *row;
-    let parts = part.repeat(alloc, times)?;
-    let line = with_part(alloc, around, parts.as_str())?;
-    is_refused_beside(rt, alloc, line.as_str(), why)
+    let parts = part.repeat(alloc, times).expect(rt, "memory");
+    let line = with_part(rt, alloc, around, parts.as_str());
+    is_refused_beside(rt, alloc, line.as_str(), why).expect(rt, "not refused")
 }
 
 #[test]
-fn lines_that_are_too_long(rt: HostRuntime) -> Result<(), Fail> {
+fn lines_that_are_too_long(rt: HostRuntime) {
     for row in LONG {
-        is_too_long(&rt, rt.alloc(), row)?;
+        is_too_long(&rt, rt.alloc(), row);
     }
-    Ok(())
 }
 
 /// A line of profile 2 isn't one for `read_op`.

@@ -2,11 +2,8 @@
 //! give the same.
 
 use super::LINES;
-use ids::Refusal;
-use operation::{Op, Shared};
 use std::alloc::{AllocError, Global};
 use std::process::Abort;
-use std::test::Fail;
 use wire::read_op;
 
 /// Lines at the limits, beyond them, and in other forms.
@@ -74,89 +71,88 @@ pub(super) fn spaced(alloc: Global, line: &[u8]) -> Result<Vec<u8>, AllocError> 
 
 /// The line with another byte at this index.
 pub(super) fn changed(
+    rt: &impl Abort,
     alloc: Global,
     line: &[u8],
     index: usize,
     byte: u8,
-) -> Result<Vec<u8>, AllocError> {
+) -> Vec<u8> {
     let mut text = Vec::new(alloc);
-    text.extend_from_slice(line)?;
+    text.extend_from_slice(line).expect(rt, "memory");
     if let Some(place) = text.get_mut(index) {
         *place = byte;
     }
-    Ok(text)
+    text
 }
 
 /// The line of these measures.
 fn long_line(
+    rt: &impl Abort,
     alloc: Global,
     fill: &str,
     hops: usize,
     key: usize,
     text: usize,
-) -> Result<Vec<u8>, AllocError> {
+) -> Vec<u8> {
     let mut line = Vec::new(alloc);
-    line.extend_from_slice(br#"["op",[1,1],[],[["m",0]"#)?;
+    line.extend_from_slice(br#"["op",[1,1],[],[["m",0]"#)
+        .expect(rt, "memory");
     for _ in 0..hops {
-        line.extend_from_slice(br#",["m",""#)?;
-        push_times(&mut line, fill, key)?;
-        line.extend_from_slice(br#""]"#)?;
+        line.extend_from_slice(br#",["m",""#).expect(rt, "memory");
+        push_times(rt, &mut line, fill, key);
+        line.extend_from_slice(br#""]"#).expect(rt, "memory");
     }
-    line.extend_from_slice(br#"],""#)?;
-    push_times(&mut line, fill, key)?;
-    line.extend_from_slice(br#"",["a",""#)?;
-    push_times(&mut line, fill, text)?;
-    line.extend_from_slice(br#""]]"#)?;
-    Ok(line)
+    line.extend_from_slice(br#"],""#).expect(rt, "memory");
+    push_times(rt, &mut line, fill, key);
+    line.extend_from_slice(br#"",["a",""#).expect(rt, "memory");
+    push_times(rt, &mut line, fill, text);
+    line.extend_from_slice(br#""]]"#).expect(rt, "memory");
+    line
 }
 
-fn push_times(line: &mut Vec<u8>, fill: &str, count: usize) -> Result<(), AllocError> {
+fn push_times(rt: &impl Abort, line: &mut Vec<u8>, fill: &str, count: usize) {
     for _ in 0..count {
-        line.extend_from_slice(fill.as_bytes())?;
+        line.extend_from_slice(fill.as_bytes()).expect(rt, "memory");
     }
-    Ok(())
 }
 
 /// Asserts that the line is read as it is when preceded by a space.
-fn is_read_alike(rt: &impl Abort, alloc: Global, line: &[u8]) -> Result<(), AllocError> {
-    let spaced = spaced(alloc, line)?;
+fn is_read_alike(rt: &impl Abort, alloc: Global, line: &[u8]) {
+    let spaced = spaced(alloc, line).expect(rt, "not refused");
     match (read_op(alloc, line), read_op(alloc, spaced.as_slice())) {
         (Ok(op), Ok(other)) => assert!(rt; *op == *other),
         (Err(why), Err(other)) => assert_eq!(rt; why, other),
         _ => panic!(rt; "a space in front changes what is read"),
     }
-    Ok(())
 }
 
 /// Asserts this of the line, of each prefix of it, and of the line with one byte changed.
-fn are_read_alike(rt: &impl Abort, alloc: Global, line: &[u8]) -> Result<(), AllocError> {
+fn are_read_alike(rt: &impl Abort, alloc: Global, line: &[u8]) {
     for index in 0..line.len() {
-        is_read_alike(rt, alloc, &line[..index])?;
+        is_read_alike(rt, alloc, &line[..index]);
         for byte in BYTES {
-            let other = changed(alloc, line, index, byte)?;
-            is_read_alike(rt, alloc, other.as_slice())?;
+            let other = changed(rt, alloc, line, index, byte);
+            is_read_alike(rt, alloc, other.as_slice());
         }
     }
     is_read_alike(rt, alloc, line)
 }
 
 #[test]
-fn a_space_in_front_changes_nothing(rt: HostRuntime) -> Result<(), Fail> {
+fn a_space_in_front_changes_nothing(rt: HostRuntime) {
     for line in LINES {
-        are_read_alike(&rt, rt.alloc(), line.as_bytes())?;
+        are_read_alike(&rt, rt.alloc(), line.as_bytes());
     }
     for line in OTHERS {
-        are_read_alike(&rt, rt.alloc(), line.as_bytes())?;
+        are_read_alike(&rt, rt.alloc(), line.as_bytes());
     }
-    Ok(())
 }
 
 #[test]
-fn a_space_in_front_changes_nothing_at_the_limits(rt: HostRuntime) -> Result<(), Fail> {
+fn a_space_in_front_changes_nothing_at_the_limits(rt: HostRuntime) {
     for (fill, hops, key, text, is_lawful) in LONG {
-        let line = long_line(rt.alloc(), fill, *hops, *key, *text)?;
+        let line = long_line(&rt, rt.alloc(), fill, *hops, *key, *text);
         assert_eq!(rt; read_op(rt.alloc(), line.as_slice()).is_ok(), *is_lawful);
-        is_read_alike(&rt, rt.alloc(), line.as_slice())?;
+        is_read_alike(&rt, rt.alloc(), line.as_slice());
     }
-    Ok(())
 }

@@ -3,9 +3,8 @@
 use super::beside_lines::{DELTA, reads};
 use super::{Around, with_part};
 use ids::Refusal;
-use std::alloc::{AllocError, Global};
+use std::alloc::Global;
 use std::process::Abort;
-use std::test::Fail;
 use wire::BundleReader;
 
 /// The first and the last of some consecutive replicas, and the counter of each.
@@ -18,47 +17,50 @@ type Step<'a> = (&'a [Run], Option<&'a [Run]>);
 const WHOLE: Around = (r#"["op",[9,2],"#, r#",[],0,["d"]]"#);
 
 /// The line with these pairs.
-fn line_of(alloc: Global, around: Around, runs: &[Run]) -> Result<String, AllocError> {
+fn line_of(rt: &impl Abort, alloc: Global, around: Around, runs: &[Run]) -> String {
     let mut pairs = String::new(alloc);
     for (first, last, counter) in runs {
         for replica in *first..=*last {
             let comma = if pairs.is_empty() { "" } else { "," };
-            pairs.push_str(format!(in alloc; "{comma}[{replica},{counter}]")?.as_str())?;
+            pairs
+                .push_str(
+                    format!(in alloc; "{comma}[{replica},{counter}]")
+                        .expect(rt, "memory")
+                        .as_str(),
+                )
+                .expect(rt, "memory");
         }
     }
-    let vector = format!(in alloc; "[{pairs}]")?;
-    with_part(alloc, around, vector.as_str())
+    let vector = format!(in alloc; "[{pairs}]").expect(rt, "memory");
+    with_part(rt, alloc, around, vector.as_str())
 }
 
 /// Asserts what the reader reads next.
-fn is_next(
-    rt: &impl Abort,
-    alloc: Global,
-    reader: &mut BundleReader,
-    step: &Step,
-) -> Result<(), Refusal> {
+fn is_next(rt: &impl Abort, alloc: Global, reader: &mut BundleReader, step: &Step) {
     let (delta, want) = *step;
-    let line = line_of(alloc, DELTA, delta)?;
+    let line = line_of(rt, alloc, DELTA, delta);
     let Some(runs) = want else {
-        return reads(rt, alloc, reader, &(line.as_str(), Err(Refusal::BadLine)));
+        return reads(rt, alloc, reader, &(line.as_str(), Err(Refusal::BadLine))).expect(
+            rt,
+            "not refused",
+        );
     };
-    let whole = line_of(alloc, WHOLE, runs)?;
-    reads(rt, alloc, reader, &(line.as_str(), Ok(whole.as_str())))
+    let whole = line_of(rt, alloc, WHOLE, runs);
+    reads(rt, alloc, reader, &(line.as_str(), Ok(whole.as_str()))).expect(rt, "not refused")
 }
 
 /// Asserts what one reader reads.
-fn are_next(rt: &impl Abort, alloc: Global, steps: &[Step]) -> Result<(), Refusal> {
+fn are_next(rt: &impl Abort, alloc: Global, steps: &[Step]) {
     let mut reader = BundleReader::new();
     for step in steps {
-        is_next(rt, alloc, &mut reader, step)?;
+        is_next(rt, alloc, &mut reader, step);
     }
-    Ok(())
 }
 
 /// 257 pairs are refused, of the delta or of the vector, and so is a counter 0 for a replica that isn't named, also if there is no room for
 /// it. One that is removed makes room for another.
 #[test]
-fn vectors_of_many_pairs(rt: HostRuntime) -> Result<(), Fail> {
+fn vectors_of_many_pairs(rt: HostRuntime) {
     const STEPS: &[Step] = &[
         (&[(1, 1, 0)], None),
         (&[(1, 257, 1)], None),
@@ -80,13 +82,12 @@ fn vectors_of_many_pairs(rt: HostRuntime) -> Result<(), Fail> {
         ),
         (&[], Some(&[(2, 255, 1), (256, 256, 3), (257, 257, 1)])),
     ];
-    are_next(&rt, rt.alloc(), STEPS)?;
-    Ok(())
+    are_next(&rt, rt.alloc(), STEPS);
 }
 
 /// A delta may have more pairs than a vector: each replica that is removed has one too.
 #[test]
-fn all_replicas_are_others(rt: HostRuntime) -> Result<(), Fail> {
+fn all_replicas_are_others(rt: HostRuntime) {
     const STEPS: &[Step] = &[
         (&[(1, 256, 1)], Some(&[(1, 256, 1)])),
         (&[(1, 256, 0), (257, 512, 1)], Some(&[(257, 512, 1)])),
@@ -100,6 +101,5 @@ fn all_replicas_are_others(rt: HostRuntime) -> Result<(), Fail> {
         (&[(1, 256, 9)], None),
         (&[(1, 255, 9)], Some(&[(1, 255, 9), (513, 513, 1)])),
     ];
-    are_next(&rt, rt.alloc(), STEPS)?;
-    Ok(())
+    are_next(&rt, rt.alloc(), STEPS);
 }

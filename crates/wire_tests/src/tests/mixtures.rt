@@ -5,9 +5,8 @@ ghost use Rattle.std.specs.Prelude.{◌<◌};
 use super::{At, Does, mutation, place};
 use ids::Refusal;
 use operation::{Op, Shared};
-use std::alloc::{AllocError, Global};
+use std::alloc::Global;
 use std::process::Abort;
-use std::test::Fail;
 use wire::{BundleWriter, LINE_END, read_bundle, write_op};
 
 /// How many lists are written and read.
@@ -69,49 +68,51 @@ fn change(dice: &mut Dice, counters: &mut [u64; REPLICAS]) {
 }
 
 /// An operation with this vector.
-fn drawn(alloc: Global, dice: &mut Dice, counters: &[u64]) -> Result<Shared<Op>, Refusal> {
+fn drawn(rt: &impl Abort, alloc: Global, dice: &mut Dice, counters: &[u64]) -> Shared<Op> {
     let counter = dice.roll(9).saturating_add(1);
-    let place = place(alloc, PLACES[dice.roll(4) as usize])?;
-    let mutation = mutation(alloc, MUTATIONS[dice.roll(7) as usize])?;
-    fixtures::op(alloc, (counter, 2), counters, place, mutation)
+    let place = place(alloc, PLACES[dice.roll(4) as usize]).expect(rt, "not refused");
+    let mutation = mutation(alloc, MUTATIONS[dice.roll(7) as usize]).expect(rt, "not refused");
+    fixtures::op(alloc, (counter, 2), counters, place, mutation).expect(rt, "an operation")
 }
 
 /// Appends the operation's line to the others, in a profile chosen by a coin. The writer writes each, so that the next one is relative to
 /// it; its line is dropped if the coin says profile 1.
 fn put(
+    rt: &impl Abort,
     alloc: Global,
     dice: &mut Dice,
     writer: &mut BundleWriter,
     text: &mut Vec<u8>,
     op: &Op,
-) -> Result<(), AllocError> {
-    let beside = writer.write(alloc, op)?;
+) {
+    let beside = writer.write(alloc, op).expect(rt, "memory");
     if dice.roll(2) == 0 {
-        let whole = write_op(alloc, op)?;
-        text.extend_from_slice(whole.as_slice())?;
+        let whole = write_op(alloc, op).expect(rt, "not refused");
+        text.extend_from_slice(whole.as_slice())
+            .expect(rt, "memory");
     } else {
-        text.extend_from_slice(beside.as_slice())?;
+        text.extend_from_slice(beside.as_slice())
+            .expect(rt, "memory");
     }
-    text.push(LINE_END)?;
-    Ok(())
+    text.push(LINE_END).expect(rt, "memory");
 }
 
 /// Draws operations, and appends the line of each.
 fn draw(
+    rt: &impl Abort,
     alloc: Global,
     dice: &mut Dice,
     ops: &mut Vec<Shared<Op>>,
     text: &mut Vec<u8>,
-) -> Result<(), Refusal> {
+) {
     let mut writer = BundleWriter::new(alloc);
     let mut counters = [0; REPLICAS];
     for _ in 0..FEWEST + dice.roll(MORE + 1) {
         change(dice, &mut counters);
-        let op = drawn(alloc, dice, &counters)?;
-        put(alloc, dice, &mut writer, text, &op)?;
-        ops.push(op)?;
+        let op = drawn(rt, alloc, dice, &counters);
+        put(rt, alloc, dice, &mut writer, text, &op);
+        ops.push(op).expect(rt, "memory");
     }
-    Ok(())
 }
 
 /// Asserts that these operations are read from this bundle.
@@ -122,20 +123,19 @@ fn is_read(rt: &impl Abort, alloc: Global, text: &[u8], ops: &[Shared<Op>]) -> R
 }
 
 /// Asserts that a list is read as it was written.
-fn is_read_back(rt: &impl Abort, alloc: Global, dice: &mut Dice) -> Result<(), Refusal> {
+fn is_read_back(rt: &impl Abort, alloc: Global, dice: &mut Dice) {
     let mut ops = Vec::new(alloc);
     let mut text = Vec::new(alloc);
-    draw(alloc, dice, &mut ops, &mut text)?;
-    is_read(rt, alloc, text.as_slice(), ops.as_slice())
+    draw(rt, alloc, dice, &mut ops, &mut text);
+    is_read(rt, alloc, text.as_slice(), ops.as_slice()).expect(rt, "not refused")
 }
 
 /// Vectors rise, shrink and change at random, and each line has the profile that a coin says: the operations that are read are those that
 /// were written.
 #[test]
-fn random_mixtures_are_read_back(rt: HostRuntime) -> Result<(), Fail> {
+fn random_mixtures_are_read_back(rt: HostRuntime) {
     let mut dice = Dice { state: 20_261 };
     for _ in 0..LISTS {
-        is_read_back(&rt, rt.alloc(), &mut dice)?;
+        is_read_back(&rt, rt.alloc(), &mut dice);
     }
-    Ok(())
 }

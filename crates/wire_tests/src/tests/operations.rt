@@ -3,16 +3,14 @@
 use super::{Around, LINES, MOST_PAIRS, joined, list_of_five, pairs, with_part};
 use ids::Refusal;
 use operation::{Op, check_alone};
-use std::alloc::{AllocError, Global};
+use std::alloc::Global;
 use std::process::Abort;
-use std::test::Fail;
 use wire::{read_op, write_op};
 
 /// Asserts that the operation is written as this line.
-fn is_written(rt: &impl Abort, alloc: Global, op: &Op, line: &str) -> Result<(), Refusal> {
-    let written = write_op(alloc, op)?;
+fn is_written(rt: &impl Abort, alloc: Global, op: &Op, line: &str) {
+    let written = write_op(alloc, op).expect(rt, "not refused");
     assert_eq!(rt; written.as_slice(), line.as_bytes());
-    Ok(())
 }
 
 /// Asserts that both operations have the same parts.
@@ -24,21 +22,20 @@ fn are_same(rt: &impl Abort, again: &Op, op: &Op, line: &str) {
 }
 
 /// Asserts that this is the operation's line, and that it is read back as the operation.
-fn has_line(rt: &impl Abort, alloc: Global, op: &Op, line: &str) -> Result<(), Refusal> {
-    is_written(rt, alloc, op, line)?;
-    let again = read_op(alloc, line.as_bytes())?;
+fn has_line(rt: &impl Abort, alloc: Global, op: &Op, line: &str) {
+    is_written(rt, alloc, op, line);
+    let again = read_op(alloc, line.as_bytes()).expect(rt, "an operation");
     are_same(rt, &again, op, line);
     is_written(rt, alloc, &again, line)
 }
 
 #[test]
-fn operations_are_read_as_they_are_written(rt: HostRuntime) -> Result<(), Fail> {
+fn operations_are_read_as_they_are_written(rt: HostRuntime) {
     assert_eq!(rt; LINES[0].len(), 29);
-    let ops = list_of_five(rt.alloc())?;
+    let ops = list_of_five(&rt, rt.alloc());
     for (op, line) in ops.iter().zip(LINES.iter()) {
-        has_line(&rt, rt.alloc(), op, line)?;
+        has_line(&rt, rt.alloc(), op, line);
     }
-    Ok(())
 }
 
 /// The counter and the replica of an id.
@@ -57,27 +54,21 @@ fn is_read(rt: &impl Abort, alloc: Global, line: &str, want: Result<Pair, Refusa
 }
 
 /// Asserts what is read from the line of an operation whose vector has this many pairs.
-fn is_read_with_pairs(
-    rt: &impl Abort,
-    alloc: Global,
-    count: u32,
-    want: Result<Pair, Refusal>,
-) -> Result<(), AllocError> {
-    let pairs = pairs(alloc, count)?;
+fn is_read_with_pairs(rt: &impl Abort, alloc: Global, count: u32, want: Result<Pair, Refusal>) {
+    let pairs = pairs(rt, alloc, count);
     let line = with_part(
+        rt,
         alloc,
         (r#"["op",[2,1],"#, r#",[],0,["a",{}]]"#),
         pairs.as_str(),
-    )?;
+    );
     is_read(rt, alloc, line.as_str(), want);
-    Ok(())
 }
 
 #[test]
-fn operations_of_many_pairs(rt: HostRuntime) -> Result<(), Fail> {
-    is_read_with_pairs(&rt, rt.alloc(), MOST_PAIRS, Ok((2, 1)))?;
-    is_read_with_pairs(&rt, rt.alloc(), MOST_PAIRS + 1, Err(Refusal::BadLine))?;
-    Ok(())
+fn operations_of_many_pairs(rt: HostRuntime) {
+    is_read_with_pairs(&rt, rt.alloc(), MOST_PAIRS, Ok((2, 1)));
+    is_read_with_pairs(&rt, rt.alloc(), MOST_PAIRS + 1, Err(Refusal::BadLine));
 }
 
 /// A line, and what is read from it.
@@ -120,7 +111,7 @@ fn lines_that_are_operations(rt: HostRuntime) {
 }
 
 #[test]
-fn white_space_of_json_is_skipped(rt: HostRuntime) -> Result<(), Fail> {
+fn white_space_of_json_is_skipped(rt: HostRuntime) {
     const PARTS: &[&str] = &[
         r#" [ "op" ,["#,
         "\t",
@@ -130,9 +121,8 @@ fn white_space_of_json_is_skipped(rt: HostRuntime) -> Result<(), Fail> {
         "\r",
         r#""a",["d" ] ]  "#,
     ];
-    let line = joined(rt.alloc(), PARTS)?;
+    let line = joined(&rt, rt.alloc(), PARTS);
     is_read(&rt, rt.alloc(), line.as_str(), Ok((1, 2)));
-    Ok(())
 }
 
 #[test]
@@ -183,60 +173,53 @@ fn parts_without_form(rt: HostRuntime) {
 }
 
 /// Asserts that the line with this part is no operation.
-fn is_bad_with(
-    rt: &impl Abort,
-    alloc: Global,
-    around: Around,
-    part: &str,
-) -> Result<(), AllocError> {
-    let line = with_part(alloc, around, part)?;
+fn is_bad_with(rt: &impl Abort, alloc: Global, around: Around, part: &str) {
+    let line = with_part(rt, alloc, around, part);
     is_read(rt, alloc, line.as_str(), Err(Refusal::BadLine));
-    Ok(())
 }
 
 /// A control character, unescaped in a text.
 #[test]
-fn texts_with_control_characters(rt: HostRuntime) -> Result<(), Fail> {
+fn texts_with_control_characters(rt: HostRuntime) {
     let text = (r#"["op",[1,1],[],[["m",0]],"a"#, r#"b",["d"]]"#);
     for part in ["\t", "\0", "\u{1f}", "\n"] {
-        is_bad_with(&rt, rt.alloc(), text, part)?;
+        is_bad_with(&rt, rt.alloc(), text, part);
     }
-    Ok(())
 }
 
 /// White space that JSON doesn't allow.
 #[test]
-fn other_white_space(rt: HostRuntime) -> Result<(), Fail> {
+fn other_white_space(rt: HostRuntime) {
     let before = ("", r#"["op",[1,1],[],[],0,["d"]]"#);
-    is_bad_with(&rt, rt.alloc(), before, "\u{c}")?;
-    is_bad_with(&rt, rt.alloc(), before, "\u{feff}")?;
+    is_bad_with(&rt, rt.alloc(), before, "\u{c}");
+    is_bad_with(&rt, rt.alloc(), before, "\u{feff}");
     let within = (r#"["op",[1,1],[],[],"#, r#"0,["d"]]"#);
-    is_bad_with(&rt, rt.alloc(), within, "\u{a0}")?;
-    Ok(())
+    is_bad_with(&rt, rt.alloc(), within, "\u{a0}");
 }
 
 /// The bytes of a line with this key.
-fn keyed(alloc: Global, key: &[u8]) -> Result<Vec<u8>, AllocError> {
+fn keyed(rt: &impl Abort, alloc: Global, key: &[u8]) -> Vec<u8> {
     let mut line = Vec::new(alloc);
-    line.extend_from_slice(r#"["op",[1,1],[],[["m",0]],""#.as_bytes())?;
-    line.extend_from_slice(key)?;
-    line.extend_from_slice(r#"",["d"]]"#.as_bytes())?;
-    Ok(line)
+    line.extend_from_slice(r#"["op",[1,1],[],[["m",0]],""#.as_bytes())
+        .expect(rt, "memory");
+    line.extend_from_slice(key).expect(rt, "memory");
+    line.extend_from_slice(r#"",["d"]]"#.as_bytes())
+        .expect(rt, "memory");
+    line
 }
 
 /// A byte that is no character, half a character, half a surrogate pair, and a zero of two bytes.
 #[test]
-fn lines_that_are_no_text(rt: HostRuntime) -> Result<(), Fail> {
+fn lines_that_are_no_text(rt: HostRuntime) {
     const KEYS: &[&[u8]] = &[b"\xffaa", b"a\xc3a", b"\xed\xa0\xbe", b"a\xc0\x80"];
     for key in KEYS {
-        let line = keyed(rt.alloc(), key)?;
+        let line = keyed(&rt, rt.alloc(), key);
         assert_eq!(rt;
             read(rt.alloc(), line.as_slice()),
             Err(Refusal::BadLine),
             "{key:?}"
         );
     }
-    Ok(())
 }
 
 #[test]
@@ -293,23 +276,16 @@ const MUTATIONS: &[(&str, Refusal)] = &[
 ];
 
 /// Asserts that no operation is read from a line with this mutation, for this reason.
-fn is_no_mutation(
-    rt: &impl Abort,
-    alloc: Global,
-    does: &str,
-    why: Refusal,
-) -> Result<(), AllocError> {
-    let line = with_part(alloc, (r#"["op",[1,1],[],[["m",0]],"a","#, "]"), does)?;
+fn is_no_mutation(rt: &impl Abort, alloc: Global, does: &str, why: Refusal) {
+    let line = with_part(rt, alloc, (r#"["op",[1,1],[],[["m",0]],"a","#, "]"), does);
     is_read(rt, alloc, line.as_str(), Err(why));
-    Ok(())
 }
 
 #[test]
-fn mutations_without_form(rt: HostRuntime) -> Result<(), Fail> {
+fn mutations_without_form(rt: HostRuntime) {
     for (does, why) in MUTATIONS {
-        is_no_mutation(&rt, rt.alloc(), does, *why)?;
+        is_no_mutation(&rt, rt.alloc(), does, *why);
     }
-    Ok(())
 }
 
 /// A line can't know who is a member.
@@ -349,24 +325,17 @@ const ALONE: &[(&str, Result<(), Refusal>)] = &[
 ];
 
 /// Asserts what `check_alone` answers about the operation of the line.
-fn is_answered(
-    rt: &impl Abort,
-    alloc: Global,
-    line: &str,
-    want: Result<(), Refusal>,
-) -> Result<(), Refusal> {
-    let op = read_op(alloc, line.as_bytes())?;
+fn is_answered(rt: &impl Abort, alloc: Global, line: &str, want: Result<(), Refusal>) {
+    let op = read_op(alloc, line.as_bytes()).expect(rt, "an operation");
     assert_eq!(rt; check_alone(&op), want, "{line}");
-    Ok(())
 }
 
 /// What is read, but refused later: by itself for what it says, or against a history.
 #[test]
-fn operations_that_are_read_and_refused_alone(rt: HostRuntime) -> Result<(), Fail> {
+fn operations_that_are_read_and_refused_alone(rt: HostRuntime) {
     for (line, want) in ALONE {
-        is_answered(&rt, rt.alloc(), line, *want)?;
+        is_answered(&rt, rt.alloc(), line, *want);
     }
-    Ok(())
 }
 
 /// What surrounds a part, the part, how many times it is repeated, and what is read from the line.
@@ -423,42 +392,40 @@ const TWO_FAULTS: &[Long] = &[
 ];
 
 /// Asserts what is read from the line of a row.
-fn is_long(rt: &impl Abort, alloc: Global, row: &Long) -> Result<(), AllocError> {
+fn is_long(rt: &impl Abort, alloc: Global, row: &Long) {
     let (around, part, times, want) = *row;
-    let parts = part.repeat(alloc, times)?;
-    let line = with_part(alloc, around, parts.as_str())?;
+    let parts = part.repeat(alloc, times).expect(rt, "memory");
+    let line = with_part(rt, alloc, around, parts.as_str());
     is_read(rt, alloc, line.as_str(), want);
-    Ok(())
 }
 
 #[test]
-fn lengths_are_limited(rt: HostRuntime) -> Result<(), Fail> {
+fn lengths_are_limited(rt: HostRuntime) {
     for row in LONG {
-        is_long(&rt, rt.alloc(), row)?;
+        is_long(&rt, rt.alloc(), row);
     }
-    Ok(())
 }
 
 #[test]
-fn the_first_fault_decides(rt: HostRuntime) -> Result<(), Fail> {
+fn the_first_fault_decides(rt: HostRuntime) {
     for row in TWO_FAULTS {
-        is_long(&rt, rt.alloc(), row)?;
+        is_long(&rt, rt.alloc(), row);
     }
-    Ok(())
 }
 
 /// This many lists within one another.
-fn nested(alloc: Global, times: usize) -> Result<String, AllocError> {
-    let open = "[".repeat(alloc, times)?;
-    let close = "]".repeat(alloc, times)?;
-    joined(alloc, &[open.as_str(), close.as_str()])
+fn nested(rt: &impl Abort, alloc: Global, times: usize) -> String {
+    let open = "[".repeat(alloc, times).expect(rt, "memory");
+    let close = "]".repeat(alloc, times).expect(rt, "memory");
+    joined(rt, alloc, &[open.as_str(), close.as_str()])
 }
 
 /// Asserts why a line is refused whose path has too many parts, and whose value is this many lists within one another.
-fn is_nested(rt: &impl Abort, alloc: Global, times: usize, why: Refusal) -> Result<(), AllocError> {
-    let parts = r#",0"#.repeat(alloc, 32)?;
-    let lists = nested(alloc, times)?;
+fn is_nested(rt: &impl Abort, alloc: Global, times: usize, why: Refusal) {
+    let parts = r#",0"#.repeat(alloc, 32).expect(rt, "memory");
+    let lists = nested(rt, alloc, times);
     let line = joined(
+        rt,
         alloc,
         &[
             r#"["op",[1,1],[],[0"#,
@@ -467,16 +434,14 @@ fn is_nested(rt: &impl Abort, alloc: Global, times: usize, why: Refusal) -> Resu
             lists.as_str(),
             "]]",
         ],
-    )?;
+    );
     is_read(rt, alloc, line.as_str(), Err(why));
-    Ok(())
 }
 
 /// That the path is too long is reported only if the text is JSON: with 125 lists inside the mutation's and the line's.
 #[test]
-fn nesting_is_limited(rt: HostRuntime) -> Result<(), Fail> {
-    is_nested(&rt, rt.alloc(), 125, Refusal::TooDeep)?;
-    is_nested(&rt, rt.alloc(), 126, Refusal::BadLine)?;
-    is_nested(&rt, rt.alloc(), 1000, Refusal::BadLine)?;
-    Ok(())
+fn nesting_is_limited(rt: HostRuntime) {
+    is_nested(&rt, rt.alloc(), 125, Refusal::TooDeep);
+    is_nested(&rt, rt.alloc(), 126, Refusal::BadLine);
+    is_nested(&rt, rt.alloc(), 1000, Refusal::BadLine);
 }

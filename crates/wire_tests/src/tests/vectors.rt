@@ -2,9 +2,8 @@
 
 use super::{Around, MOST_PAIRS, joined, pairs, with_part};
 use ids::Refusal;
-use std::alloc::{AllocError, Global};
+use std::alloc::Global;
 use std::process::Abort;
-use std::test::Fail;
 use wire::{read_vector, write_vector};
 
 /// How the vector that is read from this line is written, or why none is read.
@@ -14,14 +13,13 @@ fn rewritten(alloc: Global, line: &str) -> Result<Vec<u8>, Refusal> {
 }
 
 /// Asserts that the vector of this line is written as that text.
-fn is_written(rt: &impl Abort, alloc: Global, line: &str, written: &str) -> Result<(), Refusal> {
-    let again = rewritten(alloc, line)?;
+fn is_written(rt: &impl Abort, alloc: Global, line: &str, written: &str) {
+    let again = rewritten(alloc, line).expect(rt, "not refused");
     assert_eq!(rt; again.as_slice(), written.as_bytes(), "{line}");
-    Ok(())
 }
 
 #[test]
-fn vectors_are_written_as_they_are_read(rt: HostRuntime) -> Result<(), Fail> {
+fn vectors_are_written_as_they_are_read(rt: HostRuntime) {
     const ROWS: &[(&str, &str)] = &[
         (r#"["hello",[]]"#, r#"["hello",[]]"#),
         (r#"["hello",[[1,5]]]"#, r#"["hello",[[1,5]]]"#),
@@ -36,22 +34,20 @@ fn vectors_are_written_as_they_are_read(rt: HostRuntime) -> Result<(), Fail> {
         ),
     ];
     for (line, written) in ROWS {
-        is_written(&rt, rt.alloc(), line, written)?;
+        is_written(&rt, rt.alloc(), line, written);
     }
-    Ok(())
 }
 
 #[test]
-fn white_space_is_not_written(rt: HostRuntime) -> Result<(), Fail> {
+fn white_space_is_not_written(rt: HostRuntime) {
     const PARTS: &[&str] = &[r#" [ "hello","#, "\t[[1,1] ,[2,2],\r\n[ 9,3 ]] ] "];
-    let line = joined(rt.alloc(), PARTS)?;
+    let line = joined(&rt, rt.alloc(), PARTS);
     is_written(
         &rt,
         rt.alloc(),
         line.as_str(),
         r#"["hello",[[1,1],[2,2],[9,3]]]"#,
-    )?;
-    Ok(())
+    );
 }
 
 /// Asserts that no vector is read from this line, for this reason.
@@ -84,19 +80,13 @@ fn lines_that_are_no_vectors(rt: HostRuntime) {
 const HELLO: Around = (r#"["hello","#, "]");
 
 /// Asserts that no vector is read from a line with these pairs, for this reason.
-fn are_refused(
-    rt: &impl Abort,
-    alloc: Global,
-    pairs: &str,
-    why: Refusal,
-) -> Result<(), AllocError> {
-    let line = with_part(alloc, HELLO, pairs)?;
+fn are_refused(rt: &impl Abort, alloc: Global, pairs: &str, why: Refusal) {
+    let line = with_part(rt, alloc, HELLO, pairs);
     is_refused(rt, alloc, line.as_str(), why);
-    Ok(())
 }
 
 #[test]
-fn vectors_without_form(rt: HostRuntime) -> Result<(), Fail> {
+fn vectors_without_form(rt: HostRuntime) {
     const VECTORS: &[&str] = &[
         "null",
         "{}",
@@ -122,17 +112,15 @@ fn vectors_without_form(rt: HostRuntime) -> Result<(), Fail> {
         "[[3,1],null]",
     ];
     for pairs in VECTORS {
-        are_refused(&rt, rt.alloc(), pairs, Refusal::BadLine)?;
+        are_refused(&rt, rt.alloc(), pairs, Refusal::BadLine);
     }
-    Ok(())
 }
 
 #[test]
-fn vectors_of_many_pairs(rt: HostRuntime) -> Result<(), Fail> {
-    let most = pairs(rt.alloc(), MOST_PAIRS)?;
-    let line = with_part(rt.alloc(), HELLO, most.as_str())?;
-    is_written(&rt, rt.alloc(), line.as_str(), line.as_str())?;
-    let more = pairs(rt.alloc(), MOST_PAIRS + 1)?;
-    are_refused(&rt, rt.alloc(), more.as_str(), Refusal::BadLine)?;
-    Ok(())
+fn vectors_of_many_pairs(rt: HostRuntime) {
+    let most = pairs(&rt, rt.alloc(), MOST_PAIRS);
+    let line = with_part(&rt, rt.alloc(), HELLO, most.as_str());
+    is_written(&rt, rt.alloc(), line.as_str(), line.as_str());
+    let more = pairs(&rt, rt.alloc(), MOST_PAIRS + 1);
+    are_refused(&rt, rt.alloc(), more.as_str(), Refusal::BadLine);
 }

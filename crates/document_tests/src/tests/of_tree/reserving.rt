@@ -50,38 +50,26 @@ const FORMS: &[Sent] = &[
 ];
 
 /// Reserves an operation twice, and each time asserts everything that the groceries hold.
-fn assert_keeps(
-    rt: &impl Abort,
-    alloc: Global,
-    document: &mut Document,
-    form: Sent,
-) -> Result<(), Refusal> {
+fn assert_keeps(rt: &impl Abort, alloc: Global, document: &mut Document, form: Sent) {
     for _ in 0..2 {
-        reserve_alone(rt, alloc, document, form)?;
-        play(rt, alloc, document, &[], HELD)?;
-        play(rt, alloc, document, &[], &[Keys(&[], &["list", "note"])])?;
+        reserve_alone(rt, alloc, document, form).expect(rt, "not refused");
+        play(rt, alloc, document, &[], HELD).expect(rt, "not refused");
+        play(rt, alloc, document, &[], &[Keys(&[], &["list", "note"])]).expect(rt, "not refused");
     }
-    Ok(())
 }
 
 /// Reserves each form, on one document.
-fn assert_keeps_all(
-    rt: &impl Abort,
-    alloc: Global,
-    document: &mut Document,
-) -> Result<(), Refusal> {
-    play(rt, alloc, document, GROCERIES, &[])?;
+fn assert_keeps_all(rt: &impl Abort, alloc: Global, document: &mut Document) {
+    play(rt, alloc, document, GROCERIES, &[]).expect(rt, "not refused");
     for form in FORMS {
-        assert_keeps(rt, alloc, document, *form)?;
+        assert_keeps(rt, alloc, document, *form);
     }
-    Ok(())
 }
 
 #[test]
-fn reserves_keep_the_content(rt: HostRuntime) -> Result<(), Fail> {
-    let mut document = empty(rt.alloc(), &[1, 2, 3])?;
-    assert_keeps_all(&rt, rt.alloc(), &mut document)?;
-    Ok(())
+fn reserves_keep_the_content(rt: HostRuntime) {
+    let mut document = empty(rt.alloc(), &[1, 2, 3]).expect(&rt, "not refused");
+    assert_keeps_all(&rt, rt.alloc(), &mut document);
 }
 
 /// Makes the groceries, reserves a form, and plays the next turns and then the last.
@@ -92,24 +80,23 @@ fn take_after(
     form: Sent,
     next: &[Turn],
     last: &[Turn],
-) -> Result<(), Refusal> {
-    play(rt, alloc, document, GROCERIES, &[])?;
-    reserve_alone(rt, alloc, document, form)?;
-    play(rt, alloc, document, &[], next)?;
-    play(rt, alloc, document, &[], last)
+) {
+    play(rt, alloc, document, GROCERIES, &[]).expect(rt, "not refused");
+    reserve_alone(rt, alloc, document, form).expect(rt, "not refused");
+    play(rt, alloc, document, &[], next).expect(rt, "not refused");
+    play(rt, alloc, document, &[], last).expect(rt, "not refused")
 }
 
 /// The same after each form, each time on a new document.
-fn after_each(rt: &impl Abort, alloc: Global, next: &[Turn], last: &[Turn]) -> Result<(), Fail> {
+fn after_each(rt: &impl Abort, alloc: Global, next: &[Turn], last: &[Turn]) {
     for form in FORMS {
-        let mut document = empty(alloc, &[1, 2, 3])?;
-        take_after(rt, alloc, &mut document, *form, next, last)?;
+        let mut document = empty(alloc, &[1, 2, 3]).expect(rt, "not refused");
+        take_after(rt, alloc, &mut document, *form, next, last);
     }
-    Ok(())
 }
 
 #[test]
-fn another_operation_follows_each_reserve(rt: HostRuntime) -> Result<(), Fail> {
+fn another_operation_follows_each_reserve(rt: HostRuntime) {
     const LATE: &[Turn] = &[
         Take(((4, 1), &[3], &[Field("other")], Assign(Text("late")))),
         Values(&[Get("other")], &[((4, 1), Text("late"))]),
@@ -126,7 +113,7 @@ const MAP: &[Turn] = &[
 ];
 
 #[test]
-fn a_scalar_of_an_earlier_reserve_is_not_written(rt: HostRuntime) -> Result<(), Fail> {
+fn a_scalar_of_an_earlier_reserve_is_not_written(rt: HostRuntime) {
     after_each(&rt, rt.alloc(), MAP, &[])
 }
 
