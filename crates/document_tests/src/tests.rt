@@ -37,7 +37,7 @@ fn first_op(rt: &impl Abort, alloc: Global, document: &Document) -> Shared<Op> {
 
 #[test]
 fn new_documents_are_empty(rt: HostRuntime) {
-    let document = Document::new(rt.alloc(), &[2, 1]).expect(&rt, "a value");
+    let document = Document::new(rt.alloc(), &[2, 1]).expect(&rt, "a document");
     assert_eq!(rt; document.table().at(0), ReplicaId::new(1));
     assert_eq!(rt; document.table().at(1), ReplicaId::new(2));
     let applied = document.applied();
@@ -76,7 +76,7 @@ fn reserve_twice(rt: &impl Abort, alloc: Global, document: &mut Document) {
 
 #[test]
 fn taking_memory_changes_no_content(rt: HostRuntime) {
-    let mut document = Document::new(rt.alloc(), &[1, 2]).expect(&rt, "a value");
+    let mut document = Document::new(rt.alloc(), &[1, 2]).expect(&rt, "a document");
     reserve_twice(&rt, rt.alloc(), &mut document);
     assert_eq!(rt; (document.len(), document.applied().greatest()), (0, 0));
 }

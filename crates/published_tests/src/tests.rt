@@ -52,8 +52,8 @@ fn new_publisher<N: EngineName, R: Wait + Abort>(
     requires table { N.table ≡ in_order (1 ∷ 2 ∷ 9 ∷ []) }
     ensures { result.0.appended ≡ [] }
 {
-    let first = Document::new(alloc, &MEMBERS).expect(rt, "a value");
-    let second = Document::new(alloc, &MEMBERS).expect(rt, "a value");
+    let first = Document::new(alloc, &MEMBERS).expect(rt, "a document");
+    let second = Document::new(alloc, &MEMBERS).expect(rt, "a document");
     let (publisher, tokens, _unnamed) = open::<N>(rt, alloc, opened, first, second, 2).expect(
         rt,
         "an engine",
@@ -72,7 +72,7 @@ fn mirrored<N: EngineName, R: Wait + Abort>(
     requires table { N.table ≡ in_order (1 ∷ 2 ∷ 9 ∷ []) }
     requires new { publisher.old.appended ≡ [] }
 {
-    let mut mirror = Document::new(alloc, &MEMBERS).expect(rt, "a value");
+    let mut mirror = Document::new(alloc, &MEMBERS).expect(rt, "a document");
     token_state(rt, alloc, &mut mirror, publisher, tokens)
 }
 
@@ -119,7 +119,7 @@ fn fill<N: EngineName, R: Abort>(rt: &R, alloc: Global, publisher: &mut Publishe
     requires table { N.table ≡ in_order (1 ∷ 2 ∷ 9 ∷ []) }
     requires new { publisher.old.appended ≡ [] }
 {
-    let mut mirror = Document::new(alloc, &MEMBERS).expect(rt, "a value");
+    let mut mirror = Document::new(alloc, &MEMBERS).expect(rt, "a document");
     write_two(rt, alloc, &mut mirror, publisher).expect(rt, "not refused")
 }
 

@@ -41,7 +41,7 @@ struct Engine<'a, N: EngineName> {
 
 /// Plays these acts on a new world and a new engine, with queues of this capacity and batches of this size. Fails if their answers differ.
 pub fn play<R: Wait + Abort>(rt: &R, alloc: Global, queue: u32, batch: u32, acts: &[Act]) {
-    let mut world = World::new(alloc, &[config(rt, alloc, queue, batch)]).expect(rt, "a value");
+    let mut world = World::new(alloc, &[config(rt, alloc, queue, batch)]).expect(rt, "a world");
     let parts = prepare(alloc, config(rt, alloc, queue, batch)).expect(rt, "an engine");
     play_in::<Brand, R>(rt, alloc, &mut world, parts, acts)
 }

@@ -71,7 +71,7 @@ fn fill_list(rt: &impl Abort, alloc: Global, document: &mut Document, last: u64)
 #[test]
 fn long_lists_are_cut(rt: HostRuntime) {
     const BOUNDS: &[usize] = &[0, 1, 2, 3, 4, 513, 514, 515, 1026, 2001, 2002, 2003];
-    let mut document = Document::new(rt.alloc(), &[1]).expect(&rt, "a value");
+    let mut document = Document::new(rt.alloc(), &[1]).expect(&rt, "a document");
     fill_list(&rt, rt.alloc(), &mut document, 2001);
     assert_cut(&rt, rt.alloc(), &document, 2002, BOUNDS);
 }
@@ -89,7 +89,7 @@ fn fill_map(rt: &impl Abort, alloc: Global, document: &mut Document, count: u64)
 #[test]
 fn wide_maps_are_cut(rt: HostRuntime) {
     const BOUNDS: &[usize] = &[0, 1, 2, 3, 500, 999, 1000, 1001, 1002];
-    let mut document = Document::new(rt.alloc(), &[1]).expect(&rt, "a value");
+    let mut document = Document::new(rt.alloc(), &[1]).expect(&rt, "a document");
     fill_map(&rt, rt.alloc(), &mut document, 1000);
     assert_cut(&rt, rt.alloc(), &document, 1001, BOUNDS);
 }
@@ -116,7 +116,7 @@ fn nested_elements_are_cut_anywhere(rt: HostRuntime) {
         ((7, 1), &[6], &[Field("c")], Assign(Map)),
     ];
     const BOUNDS: &[usize] = &[0, 1, 2, 3, 4, 5, 6, 7, 8, 9, 10, 11];
-    let mut document = Document::new(rt.alloc(), &[1]).expect(&rt, "a value");
+    let mut document = Document::new(rt.alloc(), &[1]).expect(&rt, "a document");
     for sent in OPS {
         take(&rt, rt.alloc(), &mut document, sent).expect(&rt, "not refused");
     }

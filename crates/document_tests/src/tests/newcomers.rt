@@ -91,7 +91,7 @@ fn of_many(rt: &impl Abort, alloc: Global) -> Document {
     for number in 101..=162 {
         members.push(number).expect(rt, "memory");
     }
-    Document::new(alloc, &members).expect(rt, "a value")
+    Document::new(alloc, &members).expect(rt, "a document")
 }
 
 /// Takes 1@1001 to 1@1192.

@@ -45,7 +45,7 @@ fn new_log(rt: &impl Abort, alloc: Global) -> Log {
     if table.len() != 3 {
         panic!(rt; "another table");
     }
-    Log::new(alloc, table).expect(rt, "a value")
+    Log::new(alloc, table).expect(rt, "a log")
 }
 
 /// Whether an operation with this id was applied.

@@ -26,7 +26,7 @@ fn a_queue_has_from_one_to_65536_slots(rt: HostRuntime) {
 #[test]
 fn a_full_queue_gives_the_item_back(rt: HostRuntime) {
     let alloc = rt.alloc();
-    let mut taker = Queue::new::<Brand>(alloc, 1).expect(&rt, "a value");
+    let mut taker = Queue::new::<Brand>(alloc, 1).expect(&rt, "a queue");
     let mut sender = taker.sender().expect(&rt, "not refused");
     fill_and_empty(&rt, alloc, &mut taker, &mut sender)
 }
@@ -59,7 +59,7 @@ fn fill_and_empty<N: EngineName, R: Wait + Abort>(
 #[test]
 fn a_client_sends_while_the_writer_takes(rt: HostRuntime) {
     let alloc = rt.alloc();
-    let mut taker = Queue::new::<Brand>(alloc, 2).expect(&rt, "a value");
+    let mut taker = Queue::new::<Brand>(alloc, 2).expect(&rt, "a queue");
     let mut sender = taker.sender().expect(&rt, "not refused");
     let shared = &rt;
     let (sent, taken) = join(

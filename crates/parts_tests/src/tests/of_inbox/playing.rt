@@ -154,7 +154,7 @@ fn fill_and_play(
 pub fn on_new(rt: &impl Abort, alloc: Global, stuck: u64, first: &[Turn], second: &[Turn])
     requires { stuck < 10000 }
 {
-    let document = Document::new(alloc, &[1, 2, 3]).expect(rt, "a value");
+    let document = Document::new(alloc, &[1, 2, 3]).expect(rt, "a document");
     let mut inbox = Inbox::new(alloc);
     fill_and_play(rt, alloc, &mut inbox, &document, stuck, first, second)
 }
