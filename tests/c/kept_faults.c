@@ -167,7 +167,15 @@ static void goes_meanwhile(void)
     closed(file);
 }
 
-/* A process that writes is killed at any moment. */
+/* Waits until the number has grown. */
+static void wait_beyond(volatile const int *number, int least)
+{
+    struct timespec moment = {0, 100000};
+    while (*number <= least)
+        nanosleep(&moment, NULL);
+}
+
+/* A process that writes is killed at any moment: in every second round it has made a write by then, in the others maybe not even that. */
 static int kills(void)
 {
     volatile int *acknowledged = mmap(NULL, sizeof *acknowledged, PROT_READ | PROT_WRITE, MAP_SHARED | MAP_ANONYMOUS, -1, 0);
@@ -185,6 +193,8 @@ static int kills(void)
                 *acknowledged = value;
             }
         }
+        if (round % 2 == 1)
+            wait_beyond(acknowledged, *acknowledged);
         struct timespec pause = {0, rand() % 3000000};
         nanosleep(&pause, NULL);
         kill(process, SIGKILL);
@@ -196,7 +206,7 @@ static int kills(void)
         *acknowledged = value;
         closed(file);
     }
-    expect(*acknowledged > KILLS, "some writes were made");
+    expect(*acknowledged >= KILLS / 2, "some writes were made");
     return *acknowledged;
 }
 
