@@ -6,7 +6,7 @@ use std::alloc::Global;
 use std::process::Abort;
 
 /// Asserts what the words ask for.
-fn is_job(rt: &impl Abort, alloc: Global, words: &[&str], wanted: Job) {
+fn is_job<'a>(rt: &impl Abort, alloc: Global, words: &'a [&'a str], wanted: Job<'a>) {
     let job = read_words(alloc, words).ok();
     assert_eq!(rt; job, Some(wanted), "{words:?}");
 }
