@@ -21,7 +21,7 @@ def fault_of(file):
     try:
         _, places = edit.applied(Texts(crate))
         if file.parent.name == "wrong":
-            edit.changes(places)
+            edit.changes(crate, places)
     except BadEdit as error:
         return error
     return None if places else "it changes nothing"

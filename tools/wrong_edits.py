@@ -97,9 +97,9 @@ class Edit:
             texts.changed[path] = text.replace(old, new)
         return texts, places
 
-    def changes(self, places: list[Place]) -> set[str]:
-        """The functions that change with these places, one of which has to fail. Raises BadEdit."""
-        return set(self.only) or {function_at(*it) for it in places}
+    def changes(self, folder: Path, places: list[Place]) -> set[str]:
+        """The functions of the crate in this folder that change with these places, one of which has to fail. Raises BadEdit."""
+        return set(self.only) or {function_at(folder, *it) for it in places}
 
 
 @dataclass
@@ -128,10 +128,15 @@ class Texts:
             (room / path).write_text(text, encoding="utf-8")
 
 
-def function_at(path: str, text: str, at: int) -> str:
-    """The function whose body has this place, by its path below the crate. Goes by the indents that `rt fmt` gives. Raises BadEdit."""
+def modules_of(path: str) -> list[str]:
+    """The module of a file of src/, by its path below the crate."""
+    return [it for it in Path(path).with_suffix("").parts[1:] if it not in ("lib", "main", "mod")]
+
+
+def function_at(folder: Path, path: str, text: str, at: int) -> str:
+    """The function whose body has this place, as checks print it without the crate. Goes by the indents that `rt fmt` gives. Raises
+    BadEdit."""
     lines, here = text.split("\n"), text.count("\n", 0, at)
-    modules = [it for it in Path(path).with_suffix("").parts[1:] if it not in ("lib", "main", "mod")]
     for number in range(here, -1, -1):
         found = FUNCTION.match(lines[number])
         if not found:
@@ -140,24 +145,34 @@ def function_at(path: str, text: str, at: int) -> str:
         begun = any(re.match(rf"{indent}\S.*\{{$|{indent}\{{$", it) for it in lines[number : here + 1])
         if not begun or indent + "}" in lines[number:here] or not path.startswith("src/"):
             break
-        owner = [owner_of(lines[:number])] if indent else []
-        return "::".join([*modules, *owner, found[2]])
+        owner = owner_of(folder, path, lines[:number]) if indent else modules_of(path)
+        return "::".join([*owner, found[2]])
     raise BadEdit(f"no body of a function is changed in {path}: name what has to fail by a line 'only: FUNCTION'")
 
 
-def owner_of(lines: list[str]) -> str:
-    """The type or trait of the method that comes next, as checks print it: `Vector`, `VectorClone`, `RefusalFromAllocError`."""
+def owner_of(folder: Path, path: str, lines: list[str]) -> list[str]:
+    """The type or trait of the method that comes next, with its module: `Vector`, `VectorClone`, `RefusalFromAllocError`."""
     for line in reversed(lines):
         if found := TRAIT.match(line):
-            return found[1]
+            return [*modules_of(path), found[1]]
         if found := IMPL.match(line):
             head = found[1].split(" where ")[0]
             of, _, owner = head.partition(" for ")
-            words = re.findall(r"\w+", re.sub(r"'\w+", "", of))
-            if not owner:
-                return words[0]
-            return re.findall(r"\w+", re.sub(r"<.*", "", owner))[-1] + "".join(words)
+            words = re.findall(r"\w+", re.sub(r"'\w+|\w+::", "", of))
+            if owner:
+                return [*modules_of(path), re.findall(r"\w+", re.sub(r"<.*", "", owner))[-1] + "".join(words)]
+            return [*module_of_type(folder, words[0], path), words[0]]
     raise BadEdit("a method that stands in no impl")
+
+
+@functools.cache
+def module_of_type(folder: Path, name: str, path: str) -> list[str]:
+    """The module of a type, whose methods may stand in another file than the type itself."""
+    head = re.compile(rf"(?m)^(?:pub(?:\([^)]*\))? )?(?:struct|enum) {name}\b")
+    if head.search((folder / path).read_text(encoding="utf-8")):
+        return modules_of(path)
+    found = [it for it in sorted((folder / "src").rglob("*.rt")) if head.search(it.read_text(encoding="utf-8"))]
+    return modules_of(str(found[0].relative_to(folder))) if found else modules_of(path)
 
 
 @functools.cache
@@ -250,7 +265,7 @@ class Round:
         """Adds the edit, unless one of its functions is changed already, a text of it is gone, or one of both wants to be by itself."""
         try:
             texts, places = edit.applied(self.texts)
-            functions = edit.changes(places)
+            functions = edit.changes(self.texts.folder, places)
         except BadEdit:
             return False
         if any(it.only or edit.only for it in self.edits) or any(functions & it for it in self.functions):
@@ -265,7 +280,8 @@ class Round:
         file = self.crate.kept(json.dumps([[it.name for it in self.edits], sorted(self.texts.changed.items())]))
         if found := taken(file):
             return found
-        only = [it for name in sorted(set().union(*self.functions)) for it in ("--only", name)]
+        # With the crate's name, since a module may have it too.
+        only = [it for name in sorted(set().union(*self.functions)) for it in ("--only", f"{self.crate.name}::{name}")]
         status, said = self.crate.check(self.texts, ["--allow-holes", *only])
         if status == 1 and re.search(r"(?m)^only=\d+ holes=", said):
             verdict = self.judged(said)
@@ -321,7 +337,7 @@ def alone(edit: Edit, crate: Crate) -> Verdict:
         return found
     try:
         changed, places = edit.applied(crate.texts)
-        edit.changes(places)
+        edit.changes(changed.folder, places)
     except BadEdit as error:
         return Verdict(faults=[f"BAD EDIT: {edit}: {error}"])
     status, said = crate.check(changed, [])
