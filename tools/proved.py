@@ -49,16 +49,18 @@ def kit() -> Path:
 
 
 def copy_to(room: Path, crates: dict[str, str]) -> None:
-    """Copies the sources of these crates, without their wrong edits."""
+    """Copies the sources of these crates, without their wrong edits, and lists them. What is there already stays as it is."""
     (room / "crates.txt").write_text("".join(f"{line}\n" for line in crates.values()), encoding="utf-8")
     shutil.copy(TOP / "HANDLES", room)
     for name in crates:
-        for part in PARTS:
-            source, target = TOP / "crates" / name / part, room / "crates" / name / part
+        target = room / "crates" / name
+        if target.exists():
+            continue
+        target.mkdir(parents=True)
+        for source in (TOP / "crates" / name / part for part in PARTS):
             if source.is_dir():
-                shutil.copytree(source, target)
+                shutil.copytree(source, target / source.name)
             elif source.exists():
-                target.parent.mkdir(parents=True, exist_ok=True)
                 shutil.copy2(source, target)
 
 
