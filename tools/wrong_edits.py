@@ -398,8 +398,9 @@ def main() -> int:
     given = reader.parse_args()
     edits = chosen(given.names, given.folder)
     with tempfile.TemporaryDirectory(prefix="wrong-edits-proved-") as room:
-        copy_to(Path(room), crates_below({it for name in edits for it in below(name)}))
-        if not prove(Path(room)):
+        needed = crates_below({it for name in edits for it in below(name)})
+        copy_to(Path(room), needed)
+        if needed and not prove(Path(room)):
             sys.exit("wrong_edits: FAILED: what is below isn't proved")
         with ThreadPoolExecutor(int(os.environ.get("RT_JOBS") or os.cpu_count() or 1)) as pool:
             refused, faults = tried({Crate(it, Path(room)): edits[it] for it in edits}, pool)
