@@ -1,7 +1,7 @@
 #!/usr/bin/env python3
 """build.py [library]: proves the crates that the program, or the library for C, stands on, and builds it. `./jdoc build` calls this.
 
-What it proves the gate needn't prove again, and the other way round (tools/proved.py): where the gate has passed, it takes a minute or two.
+What it proves the gate needn't prove again, and the other way round (tools/proved.py): where the gate has passed, it takes some minutes.
 """
 import os
 import shutil
@@ -70,7 +70,7 @@ def built(room: Path, word: str) -> bool:
     """Whether what the word stands for is built in this copy."""
     goal = GOALS[word][0]
     crates = crates_below([goal])
-    say(f"proving {len(crates)} crates; from nothing, about half an hour on four processors")
+    say(f"proving {len(crates)} crates; from nothing, at most three quarters of an hour on four processors")
     proved = {name: line for name, line in crates.items() if not (word and name == goal)}
     copy_to(room, proved)
     if not prove(room, Progress(list(crates)).has_proved):
